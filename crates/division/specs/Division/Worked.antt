@@ -1,0 +1,63 @@
+-- The squares worked by hand that document 01 marks P, as a single table under one claim, which computes.
+use mathlib.Core.Bool.{Bool, true, false, _&&_}
+use mathlib.Core.List.{List, [], _∷_}
+use Prim.Native.Nat.{ℕ}
+use lib.Dec.{T, eqb}
+use lib.ListN.{length}
+use Rattle.division.specs.Division.{Square, Block, whole, choice, even-half, part, parts, parts-of, moved, against, row, curve-by, down, curve, blocks, within, holds, count, blocks-holding, same, place-in, square-of, number-of}
+
+-- A line of the table, of a w by h area.
+pub data Case : Type 0 where
+  -- number i is (x, y)
+  number-is : (w h i x y : ℕ) → Case
+  -- number i is (x, y), and n blocks hold it
+  number-in : (w h i x y n : ℕ) → Case
+  -- the whole traversal
+  traversal : (w h : ℕ) → List Square → Case
+  -- the division has n blocks
+  divided : (w h n : ℕ) → Case
+
+at : ℕ → ℕ → Square
+at x y = record { x = x; y = y }
+
+is : (w h i x y : ℕ) → Bool
+is w h i x y = same (square-of (whole w h) i) (at x y) && eqb (number-of (whole w h) (at x y)) i
+
+sames : List Square → List Square → Bool
+sames [] [] = true
+sames [] (q ∷ qs) = false
+sames (p ∷ ps) [] = false
+sames (p ∷ ps) (q ∷ qs) = same p q && sames ps qs
+
+right : Case → Bool
+right (number-is w h i x y) = is w h i x y
+right (number-in w h i x y n) = is w h i x y && eqb (blocks-holding (whole w h) (at x y)) n
+right (traversal w h squares) = sames (curve (whole w h)) squares
+right (divided w h n) = eqb (length (blocks (whole w h))) n
+
+pub all-right : List Case → Bool
+all-right [] = true
+all-right (c ∷ cs) = right c && all-right cs
+
+pub worked : List Case
+worked =
+    number-in 1 1 0 0 0 1
+    ∷ number-in 1 5 4 0 4 1
+    ∷ number-in 5 1 4 4 0 1
+    ∷ traversal 2 2 (at 0 0 ∷ at 0 1 ∷ at 1 1 ∷ at 1 0 ∷ [])
+    ∷ number-in 2 2 3 1 0 2
+    ∷ number-in 3 2 5 1 0 2
+    ∷ number-is 4 2 5 2 1
+    ∷ number-in 3 3 5 2 1 3
+    ∷ number-in 3 3 8 2 0 3
+    ∷ number-is 4 3 2 1 1
+    ∷ number-in 4 3 9 2 1 3
+    ∷ number-in 5 2 9 3 0 3
+    ∷ traversal 3 4 (at 0 0 ∷ at 0 1 ∷ at 0 2 ∷ at 0 3 ∷ at 1 3 ∷ at 2 3 ∷ at 2 2 ∷ at 1 2 ∷ at 2 1 ∷ at 1 1 ∷ at 1 0 ∷ at 2 0 ∷ [])
+    ∷ divided 3 4 10
+    ∷ number-in 7 4 16 4 0 3
+    ∷ []
+
+pub worked-right : T (all-right worked)
+unfolding worked all-right right is at sames same square-of number-of blocks-holding place-in curve blocks down parts parts-of part choice even-half whole moved against row curve-by within holds count mathlib.Core.List.flatten
+worked-right = tt
