@@ -1,1 +1,5 @@
 pub mod Plane
+pub mod Sums
+pub mod Cuts
+pub mod Once
+pub mod Places

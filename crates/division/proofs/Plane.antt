@@ -1,13 +1,14 @@
 -- Squares and directions: steps in a direction add up, steps in the two directions of a block do not meet, and a stretch of squares that has
 -- room in a w by h area splits in two and turns round. Each law goes by the four directions, and each case is linear arithmetic.
 use mathlib.Core.Bool.{Bool, true, false, _&&_}
-use mathlib.Core.Path.{_≡_, refl, sym, ap, ap₂, _∙_}
+use mathlib.Core.Logic.{⊎-elim}
+use mathlib.Core.Path.{_≡_, refl, sym, ap, ap₂, subst, subst⁻¹, _∙_}
 use Prim.Native.Nat.{ℕ, zero, suc, _+_, _-_, _≤_, _<_, min}
-use native.Mathlib.Nat.{add-assoc, add-comm}
+use native.Mathlib.Nat.{add-assoc, add-comm, add-zero, sub-zero, eq-zero-or-pos, min-comm}
 use native.Mathlib.Omega.{arith}
-use borrow.Author.Tests.{le-leb, lt-leb, leb-true, leb-false}
+use borrow.Author.Tests.{leb-true, leb-false, eqb-true, eqb-false, eq-eqb, ne-eqb}
 use lib.Dec.{leb, ltb, eqb}
-use Rattle.division.specs.Division.{Square, Direction, +x, +y, -x, -y, moved, against, within, one}
+use Rattle.division.specs.Division.{Square, Direction, +x, +y, -x, -y, moved, against, within, same, one}
 
 -- the pairs of run and side direction that occur
 pub data Paired : Direction → Direction → Type 0 where
@@ -64,12 +65,12 @@ moved-back w h -x m n s r l = square-eq (omega arith) refl
 moved-back w h -y m n s r l = square-eq refl (omega arith)
 
 -- a part of a stretch has room, the stretch the other way has, and steps across it leave it its room
-pub room-on : (w h : ℕ) (d : Direction) (m l n : ℕ) (s : Square) → Room w h d n s → 1 ≤ l → m + l ≤ n → Room w h d l (moved d m s)
+pub room-on : (w h : ℕ) (d : Direction) (m l n : ℕ) (s : Square) → Room w h d n s → m + l ≤ n → Room w h d l (moved d m s)
 unfolding moved
-room-on w h +x m l n s r p f = omega arith
-room-on w h +y m l n s r p f = omega arith
-room-on w h -x m l n s r p f = omega arith
-room-on w h -y m l n s r p f = omega arith
+room-on w h +x m l n s r f = omega arith
+room-on w h +y m l n s r f = omega arith
+room-on w h -x m l n s r f = omega arith
+room-on w h -y m l n s r f = omega arith
 
 pub room-back : (w h : ℕ) (d : Direction) (l n : ℕ) (s : Square) → Room w h d n s → 1 ≤ n → l ≤ n → Room w h (against d) l (moved d (n - 1) s)
 unfolding moved against
@@ -103,6 +104,10 @@ pub one-le : (t : Bool) → one t ≤ 1
 one-le true = omega arith
 one-le false = omega arith
 
+-- what lies in one of two stretches, and across
+pub min-split : (r r₁ r₂ s : ℕ) → r ≡ r₁ + r₂ → r ≤ 1 → s ≤ 1 → min r₁ s + min r₂ s ≡ min r s
+min-split r r₁ r₂ s e l m = omega arith
+
 -- 1 where lo ≤ c < hi, else 0, as a difference that telescopes
 span : (lo hi c : ℕ) → ℕ
 span lo hi c = one (leb lo c) - one (leb hi c)
@@ -119,6 +124,10 @@ leb-shift hi n c l = simp one-leb (omega arith)
 span-join : (lo mid hi c : ℕ) → lo ≤ mid → mid ≤ hi → span lo hi c ≡ span lo mid c + span mid hi c
 unfolding span
 span-join lo mid hi c l m = omega (arith, leb-mono lo mid c l, leb-mono mid hi c m)
+
+span-empty : (z c : ℕ) → span z z c ≡ 0
+unfolding span
+span-empty z c = omega arith
 
 up-span : (lo n c : ℕ) → one (leb lo c && ltb c (lo + n)) ≡ span lo (lo + n) c
 unfolding span
@@ -158,20 +167,28 @@ within-span w h -y n s p r = down-span (s .y) n (p .y) (r .0)
 up-split : (lo m n c : ℕ) → span lo (lo + (m + n)) c ≡ span lo (lo + m) c + span (lo + m) (lo + m + n) c
 up-split lo m n c = rw (add-assoc lo m n) (span-join lo (lo + m) (lo + (m + n)) c (omega arith) (omega arith))
 
-down-split : (hi m n c : ℕ) → m + n ≤ hi + 1 → 1 ≤ n
+down-split : (hi m n c : ℕ) → m + n ≤ hi + 1
     → span (suc hi - (m + n)) (suc hi) c ≡ span (suc hi - m) (suc hi) c + span (suc (hi - m) - n) (suc (hi - m)) c
-down-split hi m n c l p =
-    let e : suc (hi - m) ≡ suc hi - m = omega arith in
-    let f : suc hi - (m + n) ≡ suc hi - m - n = omega arith in
-    rw (e, f, span-join (suc hi - m - n) (suc hi - m) (suc hi) c (omega arith) (omega arith)) (add-comm (span (suc hi - m - n) (suc hi - m) c) (span (suc hi - m) (suc hi) c))
+down-split hi m n c l = ⊎-elim none some (eq-zero-or-pos n)
+  where
+    Goal : Type 0
+    Goal = span (suc hi - (m + n)) (suc hi) c ≡ span (suc hi - m) (suc hi) c + span (suc (hi - m) - n) (suc (hi - m)) c
+    none : n ≡ 0 → Goal
+    none e = rw (e, add-zero, sub-zero, span-empty (suc (hi - m)) c, add-zero)
+    some : 0 < n → Goal
+    some p =
+        let e : suc (hi - m) ≡ suc hi - m = omega arith in
+        let f : suc hi - (m + n) ≡ suc hi - m - n = omega arith in
+        rw (e, f, span-join (suc hi - m - n) (suc hi - m) (suc hi) c (omega arith) (omega arith))
+        (add-comm (span (suc hi - m - n) (suc hi - m) c) (span (suc hi - m) (suc hi) c))
 
-span-split : (w h : ℕ) (d : Direction) (m n : ℕ) (s : Square) (c : ℕ) → Room w h d (m + n) s → 1 ≤ n
+span-split : (w h : ℕ) (d : Direction) (m n : ℕ) (s : Square) (c : ℕ) → Room w h d (m + n) s
     → span (low d (m + n) s) (high d (m + n) s) c ≡ span (low d m s) (high d m s) c + span (low d n (moved d m s)) (high d n (moved d m s)) c
 unfolding moved
-span-split w h +x m n s c r l = up-split (s .x) m n c
-span-split w h +y m n s c r l = up-split (s .y) m n c
-span-split w h -x m n s c r l = down-split (s .x) m n c (r .0) l
-span-split w h -y m n s c r l = down-split (s .y) m n c (r .0) l
+span-split w h +x m n s c r = up-split (s .x) m n c
+span-split w h +y m n s c r = up-split (s .y) m n c
+span-split w h -x m n s c r = down-split (s .x) m n c (r .0)
+span-split w h -y m n s c r = down-split (s .y) m n c (r .0)
 
 span-back : (w h : ℕ) (d : Direction) (n : ℕ) (s p : Square) → Room w h d n s → 1 ≤ n
     → span (low (against d) n (moved d (n - 1) s)) (high (against d) n (moved d (n - 1) s)) (along (against d) p) ≡ span (low d n s) (high d n s) (along d p)
@@ -189,13 +206,20 @@ room-first w h -x m n s r l = omega arith
 room-first w h -y m n s r l = omega arith
 
 -- the stretch of m + n squares from s is that of m from s and that of n from m squares on
-pub within-split : (w h : ℕ) (d : Direction) (m n : ℕ) (s p : Square) → Room w h d (m + n) s → 1 ≤ n
+pub within-split : (w h : ℕ) (d : Direction) (m n : ℕ) (s p : Square) → Room w h d (m + n) s
     → one (within d (m + n) s p) ≡ one (within d m s p) + one (within d n (moved d m s) p)
-within-split w h d m n s p r l =
+within-split w h d m n s p r =
     within-span w h d (m + n) s p r
-    ∙ span-split w h d m n s (along d p) r l
+    ∙ span-split w h d m n s (along d p) r
     ∙ sym (ap₂ _+_ (within-span w h d m s p (room-first w h d m (m + n) s r (omega arith)))
-    (within-span w h d n (moved d m s) p (room-on w h d m n (m + n) s r l (omega arith))))
+    (within-span w h d n (moved d m s) p (room-on w h d m n (m + n) s r (omega arith))))
+
+pub within-cut : (w h : ℕ) (d : Direction) (m n : ℕ) (s p : Square) → Room w h d n s → m < n
+    → one (within d n s p) ≡ one (within d m s p) + one (within d (n - m) (moved d m s) p)
+within-cut w h d m n s p r l =
+    let e : m + (n - m) ≡ n = omega arith in
+    subst (λ (z : ℕ). one (within d z s p) ≡ one (within d m s p) + one (within d (n - m) (moved d m s) p)) e
+    (within-split w h d m (n - m) s p (subst⁻¹ (λ (z : ℕ). Room w h d z s) e r))
 
 -- a stretch holds the same squares when it is walked from its other end
 pub within-back : (w h : ℕ) (d : Direction) (n : ℕ) (s p : Square) → Room w h d n s → 1 ≤ n → one (within (against d) n (moved d (n - 1) s) p) ≡ one (within d n s p)
@@ -210,3 +234,32 @@ within-across x-y m n s p = refl
 within-across y-x m n s p = refl
 within-across x-y-back m n s p = refl
 within-across y-x-back m n s p = refl
+
+-- no square lies within a stretch of none, and only s itself within one of one square along either direction
+pub within-none : (w h : ℕ) (d : Direction) (s p : Square) → Room w h d 0 s → one (within d 0 s p) ≡ 0
+within-none w h +x s p r = within-span w h +x 0 s p r ∙ rw add-zero (span-empty (s .x) (p .x))
+within-none w h +y s p r = within-span w h +y 0 s p r ∙ rw add-zero (span-empty (s .y) (p .y))
+within-none w h -x s p r = within-span w h -x 0 s p r ∙ rw sub-zero (span-empty (suc (s .x)) (p .x))
+within-none w h -y s p r = within-span w h -y 0 s p r ∙ rw sub-zero (span-empty (suc (s .y)) (p .y))
+
+eqb-number : (a b : ℕ) (t : Bool) → eqb a b ≡ t → one t ≡ min 1 (suc a - b) - min 1 (suc a - (b + 1))
+eqb-number a b true e = omega (arith, eqb-true a b e)
+eqb-number a b false e = omega (arith, eqb-false a b e)
+
+eqb-up : (a b : ℕ) → one (eqb a b) ≡ one (leb b a && ltb a (b + 1))
+unfolding span
+eqb-up a b = eqb-number a b (eqb a b) refl ∙ sym (up-span b 1 a ∙ ap₂ _-_ (one-leb b a) (one-leb (b + 1) a))
+
+eqb-comm : (a b : ℕ) (t : Bool) → eqb a b ≡ t → t ≡ eqb b a
+eqb-comm a b true e = sym (eq-eqb b a (sym (eqb-true a b e)))
+eqb-comm a b false e = sym (ne-eqb b a (λ f. eqb-false a b e (sym f)))
+
+eqb-down : (a b : ℕ) → one (eqb a b) ≡ one (leb a b && ltb b (a + 1))
+eqb-down a b = ap one (eqb-comm a b (eqb a b) refl) ∙ eqb-up b a
+
+pub same-within : {d t : Direction} → Paired d t → (s p : Square) → one (same p s) ≡ min (one (within d 1 s p)) (one (within t 1 s p))
+unfolding same within
+same-within x-y s p = simp (one-and, eqb-up)
+same-within y-x s p = simp (one-and, eqb-up) (min-comm _ _)
+same-within x-y-back s p = simp (one-and, eqb-down)
+same-within y-x-back s p = simp (one-and, eqb-down) (min-comm _ _)

@@ -25,6 +25,10 @@ pub All-map : {X : Type 0} {P Q : X → Type 0} → ((z : X) → P z → Q z) �
 All-map f [] h = tt
 All-map f (z ∷ zs) h = (f z (h .0), All-map f zs (h .1))
 
+pub All-use : {X : Type 0} (P Q : X → Type 0) (zs : List X) → All (λ z. P z → Q z) zs → All P zs → All Q zs
+All-use P Q [] f h = tt
+All-use P Q (z ∷ zs) f h = (f .0 (h .0), All-use P Q zs (f .1) (h .1))
+
 pub map-all : {X Y : Type 0} (f g : X → Y) (zs : List X) → All (λ z. f z ≡ g z) zs → map f zs ≡ map g zs
 map-all f g [] h = refl
 map-all f g (z ∷ zs) h = ap₂ (λ y ys. y ∷ ys) (h .0) (map-all f g zs (h .1))
@@ -178,3 +182,23 @@ rule-of UCut k w = simp append-nil at w
 
 pub four-rules : (k : Block) → Sized k → Rule (choice (k .a) (k .b)) k
 four-rules k h = rule-of (choice (k .a) (k .b)) k (written k h)
+
+-- A block is straight one way or the other, or it is cut in two or in three.
+pub data Cut (k : Block) : Type 0 where
+  long : 2 ≤ k .a → 2 ≤ k .b → parts k ≡ part First k ∷ part Second k ∷ [] → Cut k
+  u : 2 ≤ k .a → 2 ≤ k .b → parts k ≡ part A k ∷ part B k ∷ part C k ∷ [] → Cut k
+
+pub data Shape (k : Block) : Type 0 where
+  in-run : k .b ≡ 1 → parts k ≡ [] → curve k ≡ row (k .run) (k .a) (k .start) → Shape k
+  in-side : k .a ≡ 1 → parts k ≡ [] → curve k ≡ row (k .side) (k .b) (k .start) → Shape k
+  cut : Cut k → curve k ≡ flatten (map curve (parts k)) → Shape k
+
+shape-by : (k : Block) → Sized k → Chosen (k .a) (k .b) → Shape k
+unfolding parts-of curve-by
+shape-by k h (runs e b) = in-run b (parts-are k StraightRun e) (rw e at (curve-rule k h))
+shape-by k h (sides e a b) = in-side a (parts-are k StraightSide e) (rw e at (curve-rule k h))
+shape-by k h (long e a b l) = cut (long a b (parts-are k LongCut e)) (rw e at (curve-rule k h))
+shape-by k h (u e a b l) = cut (u a b (parts-are k UCut e)) (rw e at (curve-rule k h))
+
+pub shape : (k : Block) → Sized k → Shape k
+shape k h = shape-by k h (chosen k h)

@@ -1,0 +1,55 @@
+-- A square's place in a list that holds it once, and the square at a place: each is the other's way back.
+use mathlib.Core.Bool.{Bool, true, false, and-eq-true-iff}
+use mathlib.Core.List.{List, [], _∷_}
+use mathlib.Core.Path.{_≡_, refl, sym, ap, _∙_}
+use Prim.Native.Nat.{ℕ, zero, suc, _+_, _≤_, _<_}
+use native.Mathlib.Nat.{suc-inj, le-of-suc-le-suc}
+use native.Mathlib.Omega.{arith}
+use borrow.Author.Tests.{eqb-true, eq-eqb}
+use lib.Dec.{eqb}
+use lib.ListN.{length, getD}
+use Rattle.division.specs.Division.{Square, pick, one, count, same, place-in}
+
+pub same-true : (p q : Square) → same p q ≡ true → p ≡ q
+unfolding same
+same-true p q e =
+    λ i. record {
+      x = eqb-true (p .x) (q .x) (and-eq-true-iff (eqb (p .x) (q .x)) (eqb (p .y) (q .y)) .0 e .0) i;
+      y = eqb-true (p .y) (q .y) (and-eq-true-iff (eqb (p .x) (q .x)) (eqb (p .y) (q .y)) .0 e .1) i
+    }
+
+pub same-self : (p : Square) → same p p ≡ true
+unfolding same
+same-self p = rw (eq-eqb (p .x) (p .x) refl, eq-eqb (p .y) (p .y) refl)
+
+-- what stands in a list is counted
+pub counted : (p : Square) (zs : List Square) (i : ℕ) (d : Square) → i < length zs → getD zs i d ≡ p → 1 ≤ count (same p) zs
+unfolding count
+counted p [] i d l e = absurd (omega arith)
+counted p (z ∷ zs) zero d l e = let f : one (same p z) ≡ 1 = ap one (ap (same p) e ∙ same-self p) in omega arith
+counted p (z ∷ zs) (suc i) d l e = let f = counted p zs i d (le-of-suc-le-suc l) e in omega arith
+
+module _ (p z : Square) (zs : List Square) (d : Square) where
+  -- the head is p, or it is not and p is looked for in the rest
+  found-by : (t : Bool) → same p z ≡ t → 1 ≤ one t + count (same p) zs
+      → (1 ≤ count (same p) zs → (place-in zs p < length zs) × (getD zs (place-in zs p) d ≡ p))
+      → (pick t 0 (suc (place-in zs p)) < length (z ∷ zs)) × (getD (z ∷ zs) (pick t 0 (suc (place-in zs p))) d ≡ p)
+  found-by true e l next = (omega arith, sym (same-true p z e))
+  found-by false e l next = let f = next (omega arith) in (omega arith, f .1)
+
+  unique-by : (t : Bool) → same p z ≡ t → (i : ℕ) → one t + count (same p) zs ≤ 1 → i < length zs → getD zs i d ≡ p
+      → (count (same p) zs ≤ 1 → place-in zs p ≡ i)
+      → pick t 0 (suc (place-in zs p)) ≡ suc i
+  unique-by true e i l r q next = let f = counted p zs i d r q in absurd (omega arith)
+  unique-by false e i l r q next = ap suc (next (omega arith))
+
+pub found : (p : Square) (zs : List Square) (d : Square) → 1 ≤ count (same p) zs → (place-in zs p < length zs) × (getD zs (place-in zs p) d ≡ p)
+unfolding count place-in
+found p [] d l = absurd (omega arith)
+found p (z ∷ zs) d l = found-by p z zs d (same p z) refl l (found p zs d)
+
+pub unique : (p : Square) (zs : List Square) (i : ℕ) (d : Square) → count (same p) zs ≤ 1 → i < length zs → getD zs i d ≡ p → place-in zs p ≡ i
+unfolding count place-in
+unique p [] i d l r e = absurd (omega arith)
+unique p (z ∷ zs) zero d l r e = rw (ap (same p) e ∙ same-self p)
+unique p (z ∷ zs) (suc i) d l r e = unique-by p z zs d (same p z) refl i l (le-of-suc-le-suc r) e (λ c. unique p zs i d c (le-of-suc-le-suc r) e)
