@@ -3,3 +3,4 @@ pub mod Sums
 pub mod Cuts
 pub mod Once
 pub mod Places
+pub mod Blocks

@@ -50,18 +50,18 @@ none-of m d (z ∷ zs) h e =
     let rest : total d zs ≡ 0 = none-of m d zs (h .1) (omega arith) in
     omega arith
 
--- where at most one of a list is marked, and d is 0 at what is not marked, the sum of d is 0 or is d at one that is marked
+-- where at most one of a list is marked, and d is 0 at what is not marked, none is marked, or the sum of d is d at the one that is
 pub one-of : {X : Type 0} (R : X → Type 0) (m d : X → ℕ) (zs : List X) → All R zs → All (λ z. m z ≡ 0 → d z ≡ 0) zs → total m zs ≤ 1
-    → (total m zs ≡ 0) ⊎ ((z : X) × R z × (m z ≡ 1) × (total d zs ≡ d z))
+    → (total m zs ≡ 0) ⊎ ((z : X) × R z × (m z ≡ 1) × (total m zs ≡ 1) × (total d zs ≡ d z))
 one-of R m d [] r h l = inl refl
 one-of R m d (z ∷ zs) r h l = by (eq-zero-or-pos (m z)) (one-of R m d zs (r .1) (h .1))
   where
     by : (m z ≡ 0) ⊎ (0 < m z)
-        → (total m zs ≤ 1 → (total m zs ≡ 0) ⊎ ((y : _) × R y × (m y ≡ 1) × (total d zs ≡ d y)))
-        → (total m (z ∷ zs) ≡ 0) ⊎ ((y : _) × R y × (m y ≡ 1) × (total d (z ∷ zs) ≡ d y))
+        → (total m zs ≤ 1 → (total m zs ≡ 0) ⊎ ((y : _) × R y × (m y ≡ 1) × (total m zs ≡ 1) × (total d zs ≡ d y)))
+        → (total m (z ∷ zs) ≡ 0) ⊎ ((y : _) × R y × (m y ≡ 1) × (total m (z ∷ zs) ≡ 1) × (total d (z ∷ zs) ≡ d y))
     by (inl e) next =
         let gone : d z ≡ 0 = h .0 e in
-        ⊎-elim (λ none. inl (omega arith)) (λ f. inr (f .0, f .1, f .2, (let same = f .3 in omega arith))) (next (omega arith))
+        ⊎-elim (λ none. inl (omega arith)) (λ f. inr (f .0, f .1, f .2, (let all = f .3 in omega arith), (let same = f .4 in omega arith))) (next (omega arith))
     by (inr p) next =
         let rest : total d zs ≡ 0 = none-of m d zs (h .1) (omega arith) in
-        inr (z, r .0, omega arith, omega arith)
+        inr (z, r .0, omega arith, omega arith, omega arith)
