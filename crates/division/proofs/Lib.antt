@@ -4,3 +4,4 @@ pub mod Cuts
 pub mod Once
 pub mod Places
 pub mod Blocks
+pub mod Descent

@@ -8,7 +8,7 @@ use native.Mathlib.Nat.{mul-one, one-mul, min-comm}
 use native.Mathlib.Numerals.{one-add}
 use native.Mathlib.Omega.{arith}
 use lib.ListN.{length, getD}
-use Rattle.division.specs.Division.{Square, Direction, Block, whole, parts, moved, row, curve, within, holds, one, count, same, square-of, number-of}
+use Rattle.division.specs.Division.{Square, square, Direction, Block, whole, parts, moved, row, curve, within, holds, one, count, same, square-of, number-of}
 use Rattle.division.specs.Division.Rules.{Sized, All, All-use, induction, Shape, in-run, in-side, cut, shape}
 use Rattle.division.proofs.Plane.{Paired, turned, Room, room-on, one-and, one-le, min-split, within-none, within-split, within-across, same-within}
 use Rattle.division.proofs.Sums.{total, total-all, count-joined, length-joined}
@@ -71,7 +71,7 @@ pub once : (w h : ℕ) (k : Block) → Inside w h k → (p : Square) → count (
 once w h k i p =
     induction (λ q. Inside w h q → count (same p) (curve q) ≡ one (holds q p)) (λ q s all j. once-step w h p q all j (shape q s)) k (i .sized) i
 
-one-true : (b : Bool) → 1 ≤ one b → b ≡ true
+pub one-true : (b : Bool) → 1 ≤ one b → b ≡ true
 one-true true l = refl
 one-true false l = absurd (omega arith)
 
@@ -80,14 +80,14 @@ module _ (w h : ℕ) (k : Block) (i : Inside w h k) where
   pub square-held : (n : ℕ) → n < area k → holds k (square-of k n) ≡ true
   unfolding square-of
   square-held n l =
-      let p = getD (curve k) n (k .start) in
-      let c = counted p (curve k) n (k .start) (subst⁻¹ (λ (z : ℕ). n < z) (length-curve k (i .sized)) l) refl in
+      let p = getD (curve k) n (square 0 0) in
+      let c = counted p (curve k) n (square 0 0) (subst⁻¹ (λ (z : ℕ). n < z) (length-curve k (i .sized)) l) refl in
       one-true (holds k p) (subst (λ (z : ℕ). 1 ≤ z) (once w h k i p) c)
 
   -- a held square's number is one of the block's, and has that square
   placed : (p : Square) → holds k p ≡ true → (number-of k p < length (curve k)) × (square-of k (number-of k p) ≡ p)
   unfolding square-of number-of
-  placed p e = found p (curve k) (k .start) (subst⁻¹ (λ (z : ℕ). 1 ≤ z) (once w h k i p ∙ ap one e) (omega arith))
+  placed p e = found p (curve k) (square 0 0) (subst⁻¹ (λ (z : ℕ). 1 ≤ z) (once w h k i p ∙ ap one e) (omega arith))
 
   pub number-below : (p : Square) → holds k p ≡ true → number-of k p < area k
   number-below p e = subst (λ (z : ℕ). number-of k p < z) (length-curve k (i .sized)) (placed p e .0)
@@ -99,6 +99,6 @@ module _ (w h : ℕ) (k : Block) (i : Inside w h k) where
   pub number-of-square : (n : ℕ) → n < area k → number-of k (square-of k n) ≡ n
   unfolding square-of number-of
   number-of-square n l =
-      let p = getD (curve k) n (k .start) in
-      unique p (curve k) n (k .start) (subst⁻¹ (λ (z : ℕ). z ≤ 1) (once w h k i p) (one-le (holds k p)))
+      let p = getD (curve k) n (square 0 0) in
+      unique p (curve k) n (square 0 0) (subst⁻¹ (λ (z : ℕ). z ≤ 1) (once w h k i p) (one-le (holds k p)))
       (subst⁻¹ (λ (z : ℕ). n < z) (length-curve k (i .sized)) l) refl

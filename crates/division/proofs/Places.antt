@@ -1,9 +1,9 @@
 -- A square's place in a list that holds it once, and the square at a place: each is the other's way back.
 use mathlib.Core.Bool.{Bool, true, false, and-eq-true-iff}
-use mathlib.Core.List.{List, [], _∷_}
+use mathlib.Core.List.{List, [], _∷_, _++_}
 use mathlib.Core.Path.{_≡_, refl, sym, ap, _∙_}
 use Prim.Native.Nat.{ℕ, zero, suc, _+_, _≤_, _<_}
-use native.Mathlib.Nat.{suc-inj, le-of-suc-le-suc}
+use native.Mathlib.Nat.{le-of-suc-le-suc, zero-add, suc-add}
 use native.Mathlib.Omega.{arith}
 use borrow.Author.Tests.{eqb-true, eq-eqb}
 use lib.Dec.{eqb}
@@ -53,3 +53,27 @@ unfolding count place-in
 unique p [] i d l r e = absurd (omega arith)
 unique p (z ∷ zs) zero d l r e = rw (ap (same p) e ∙ same-self p)
 unique p (z ∷ zs) (suc i) d l r e = unique-by p z zs d (same p z) refl i l (le-of-suc-le-suc r) e (λ c. unique p zs i d c (le-of-suc-le-suc r) e)
+
+-- the place in two lists joined: in the first where that has the square, else beyond it
+module _ (p z : Square) (zs ys : List Square) where
+  left-by : (t : Bool) → same p z ≡ t → 1 ≤ one t + count (same p) zs
+      → (1 ≤ count (same p) zs → place-in (zs ++ ys) p ≡ place-in zs p)
+      → pick t 0 (suc (place-in (zs ++ ys) p)) ≡ pick t 0 (suc (place-in zs p))
+  left-by true e l next = refl
+  left-by false e l next = ap suc (next (omega arith))
+
+  right-by : (t : Bool) → same p z ≡ t → one t + count (same p) zs ≡ 0
+      → (count (same p) zs ≡ 0 → place-in (zs ++ ys) p ≡ length zs + place-in ys p)
+      → pick t 0 (suc (place-in (zs ++ ys) p)) ≡ suc (length zs) + place-in ys p
+  right-by true e l next = absurd (omega arith)
+  right-by false e l next = ap suc (next (omega arith)) ∙ sym (suc-add (length zs) (place-in ys p))
+
+pub place-left : (p : Square) (zs ys : List Square) → 1 ≤ count (same p) zs → place-in (zs ++ ys) p ≡ place-in zs p
+unfolding count place-in
+place-left p [] ys l = absurd (omega arith)
+place-left p (z ∷ zs) ys l = left-by p z zs ys (same p z) refl l (place-left p zs ys)
+
+pub place-right : (p : Square) (zs ys : List Square) → count (same p) zs ≡ 0 → place-in (zs ++ ys) p ≡ length zs + place-in ys p
+unfolding count place-in
+place-right p [] ys l = sym (zero-add (place-in ys p))
+place-right p (z ∷ zs) ys l = right-by p z zs ys (same p z) refl l (place-right p zs ys)

@@ -1,6 +1,6 @@
 -- Sums over a list, and how counts, lengths and All go through a list that is joined from pieces.
 use mathlib.Core.Bool.{Bool}
-use mathlib.Core.List.{List, [], _∷_, _++_, map, flatten}
+use mathlib.Core.List.{List, [], _∷_, _++_, map, flatten, append-assoc}
 use mathlib.Core.Logic.{_⊎_, inl, inr, ⊎-elim}
 use mathlib.Core.Path.{_≡_, refl, sym, ap, ap₂, _∙_}
 use Prim.Native.Nat.{ℕ, zero, suc, _+_, _*_, _≤_, _<_}
@@ -65,3 +65,20 @@ one-of R m d (z ∷ zs) r h l = by (eq-zero-or-pos (m z)) (one-of R m d zs (r .1
     by (inr p) next =
         let rest : total d zs ≡ 0 = none-of m d zs (h .1) (omega arith) in
         inr (z, r .0, omega arith, omega arith, omega arith)
+
+pub total-append : {X : Type 0} (f : X → ℕ) (xs ys : List X) → total f (xs ++ ys) ≡ total f xs + total f ys
+total-append f [] ys = omega arith
+total-append f (x ∷ xs) ys = let rest = total-append f xs ys in omega arith
+
+pub flatten-append : {X Y : Type 0} (g : Y → List X) (xs ys : List Y) → flatten (map g (xs ++ ys)) ≡ flatten (map g xs) ++ flatten (map g ys)
+unfolding flatten
+flatten-append g [] ys = refl
+flatten-append g (x ∷ xs) ys = ap (λ zs. g x ++ zs) (flatten-append g xs ys) ∙ sym (append-assoc (g x) (flatten (map g xs)) (flatten (map g ys)))
+
+pub all-left : {X : Type 0} (P : X → Type 0) (xs ys : List X) → All P (xs ++ ys) → All P xs
+all-left P [] ys h = tt
+all-left P (x ∷ xs) ys h = (h .0, all-left P xs ys (h .1))
+
+pub all-right : {X : Type 0} (P : X → Type 0) (xs ys : List X) → All P (xs ++ ys) → All P ys
+all-right P [] ys h = h
+all-right P (x ∷ xs) ys h = all-right P xs ys (h .1)

@@ -20,15 +20,18 @@ pub record Square : Type 0 where
   pub x : ℕ
   pub y : ℕ
 
+abbrev pub square : ℕ → ℕ → Square
+square x y = record { x = x; y = y }
+
 -- The four directions, and the square that lies n squares on from s in one of them.
 pub data Direction : Type 0 where
   +x +y -x -y : Direction
 
 unfoldable pub moved : Direction → ℕ → Square → Square
-moved +x n s = record { x = s .x + n; y = s .y }
-moved +y n s = record { x = s .x; y = s .y + n }
-moved -x n s = record { x = s .x - n; y = s .y }
-moved -y n s = record { x = s .x; y = s .y - n }
+moved +x n s = square (s .x + n) (s .y)
+moved +y n s = square (s .x) (s .y + n)
+moved -x n s = square (s .x - n) (s .y)
+moved -y n s = square (s .x) (s .y - n)
 
 unfoldable pub against : Direction → Direction
 against +x = -x
@@ -46,7 +49,7 @@ pub record Block : Type 0 where
 
 -- "The whole area is the block that starts at (0, 0), runs along +x with a = w, and has its side along +y with b = h."
 unfoldable pub whole : ℕ → ℕ → Block
-whole w h = record { start = record { x = 0; y = 0 }; run = +x; a = w; side = +y; b = h }
+whole w h = record { start = square 0 0; run = +x; a = w; side = +y; b = h }
 
 -- "The choice rule, in this order": b = 1: straight. a = 1: straight. 2a > 3b: the long cut. Otherwise: the U cut.
 unfoldable pub choice : ℕ → ℕ → Choice
@@ -147,7 +150,7 @@ place-in [] p = 0
 place-in (q ∷ qs) p = pick (same p q) 0 (suc (place-in qs p))
 
 unfoldable pub square-of : Block → ℕ → Square
-square-of k i = getD (curve k) i (k .start)
+square-of k i = getD (curve k) i (square 0 0)
 
 unfoldable pub number-of : Block → Square → ℕ
 number-of k p = place-in (curve k) p

@@ -4,7 +4,7 @@ use mathlib.Core.List.{List, [], _∷_}
 use Prim.Native.Nat.{ℕ}
 use lib.Dec.{T, eqb}
 use lib.ListN.{length}
-use Rattle.division.specs.Division.{Square, Block, whole, choice, even-half, part, parts, parts-of, moved, against, row, curve-by, down, curve, blocks, within, holds, count, blocks-holding, same, place-in, square-of, number-of}
+use Rattle.division.specs.Division.{Square, square, Block, whole, choice, even-half, part, parts, parts-of, moved, against, row, curve-by, down, curve, blocks, within, holds, count, blocks-holding, same, place-in, square-of, number-of}
 
 -- A line of the table, of a w by h area.
 pub data Case : Type 0 where
@@ -17,11 +17,8 @@ pub data Case : Type 0 where
   -- the division has n blocks
   divided : (w h n : ℕ) → Case
 
-at : ℕ → ℕ → Square
-at x y = record { x = x; y = y }
-
 is : (w h i x y : ℕ) → Bool
-is w h i x y = same (square-of (whole w h) i) (at x y) && eqb (number-of (whole w h) (at x y)) i
+is w h i x y = same (square-of (whole w h) i) (square x y) && eqb (number-of (whole w h) (square x y)) i
 
 sames : List Square → List Square → Bool
 sames [] [] = true
@@ -31,7 +28,7 @@ sames (p ∷ ps) (q ∷ qs) = same p q && sames ps qs
 
 right : Case → Bool
 right (number-is w h i x y) = is w h i x y
-right (number-in w h i x y n) = is w h i x y && eqb (blocks-holding (whole w h) (at x y)) n
+right (number-in w h i x y n) = is w h i x y && eqb (blocks-holding (whole w h) (square x y)) n
 right (traversal w h squares) = sames (curve (whole w h)) squares
 right (divided w h n) = eqb (length (blocks (whole w h))) n
 
@@ -44,7 +41,7 @@ worked =
     number-in 1 1 0 0 0 1
     ∷ number-in 1 5 4 0 4 1
     ∷ number-in 5 1 4 4 0 1
-    ∷ traversal 2 2 (at 0 0 ∷ at 0 1 ∷ at 1 1 ∷ at 1 0 ∷ [])
+    ∷ traversal 2 2 (square 0 0 ∷ square 0 1 ∷ square 1 1 ∷ square 1 0 ∷ [])
     ∷ number-in 2 2 3 1 0 2
     ∷ number-in 3 2 5 1 0 2
     ∷ number-is 4 2 5 2 1
@@ -53,11 +50,11 @@ worked =
     ∷ number-is 4 3 2 1 1
     ∷ number-in 4 3 9 2 1 3
     ∷ number-in 5 2 9 3 0 3
-    ∷ traversal 3 4 (at 0 0 ∷ at 0 1 ∷ at 0 2 ∷ at 0 3 ∷ at 1 3 ∷ at 2 3 ∷ at 2 2 ∷ at 1 2 ∷ at 2 1 ∷ at 1 1 ∷ at 1 0 ∷ at 2 0 ∷ [])
+    ∷ traversal 3 4 (square 0 0 ∷ square 0 1 ∷ square 0 2 ∷ square 0 3 ∷ square 1 3 ∷ square 2 3 ∷ square 2 2 ∷ square 1 2 ∷ square 2 1 ∷ square 1 1 ∷ square 1 0 ∷ square 2 0 ∷ [])
     ∷ divided 3 4 10
     ∷ number-in 7 4 16 4 0 3
     ∷ []
 
 pub worked-right : T (all-right worked)
-unfolding worked all-right right is at sames same square-of number-of blocks-holding place-in curve blocks down parts parts-of part choice even-half whole moved against row curve-by within holds count mathlib.Core.List.flatten
+unfolding worked all-right right is sames same square-of number-of blocks-holding place-in curve blocks down parts parts-of part choice even-half whole moved against row curve-by within holds count mathlib.Core.List.flatten
 worked-right = tt

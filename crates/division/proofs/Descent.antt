@@ -1,0 +1,108 @@
+-- From a block down into one of its parts: the part's numbers stand in the block's behind those of the parts before it, and one more block
+-- holds each of its squares. What a lookup does at each step.
+use mathlib.Core.Bool.{Bool, true, false}
+use mathlib.Core.List.{List, [], _∷_, _++_, map, flatten}
+use mathlib.Core.Logic.{⊎-elim}
+use mathlib.Core.Path.{_≡_, refl, sym, ap, ap₂, subst, subst⁻¹, _∙_}
+use Prim.Native.Nat.{ℕ, zero, suc, _+_, _*_, _≤_, _<_}
+use native.Mathlib.Nat.{add-zero, add-assoc, zero-add}
+use native.Mathlib.Omega.{arith}
+use lib.ListN.{length, getD, length-append, List·getD-append}
+use lib.Seq.{getD-append-add}
+use Rattle.division.specs.Division.{Square, square, Block, Part, part, parts, parts-of, choice, curve, holds, one, count, blocks-holding, same, place-in, square-of, number-of}
+use Rattle.division.specs.Division.Rules.{Sized, All, All-map, All-use, Cut, long, u, Shape, in-run, in-side, cut, shape, parts-are}
+use Rattle.division.proofs.Plane.{one-le}
+use Rattle.division.proofs.Sums.{total, total-all, total-append, count-joined, length-joined, flatten-append, none-of, all-left, all-right}
+use Rattle.division.proofs.Cuts.{Inside, area, inside-parts, holds-parts}
+use Rattle.division.proofs.Places.{place-left, place-right}
+use Rattle.division.proofs.Once.{length-curve, once, one-true}
+use Rattle.division.proofs.Blocks.{Bounded, bounded, holding-rule}
+
+-- 1 where a block holds the square
+abbrev holding : Square → Block → ℕ
+holding p j = one (holds j p)
+
+-- the parts of a cut block, with one of them marked off from those before and after it
+module _ (w h : ℕ) (k : Block) (i : Inside w h k) (before : List Block) (q : Block) (after : List Block) (e : parts k ≡ before ++ (q ∷ after)) where
+  not-straight : parts k ≡ [] → ⊥
+  not-straight z = empty before (sym e ∙ z)
+    where
+      empty : (xs : List Block) → xs ++ (q ∷ after) ≡ [] → ⊥
+      empty [] f = absurd (mathlib.Core.List.cons-ne-nil q after f)
+      empty (x ∷ xs) f = absurd (mathlib.Core.List.cons-ne-nil x (xs ++ (q ∷ after)) f)
+
+  is-cut : Shape k → Cut k
+  is-cut (in-run b z c) = absurd (not-straight z)
+  is-cut (in-side a z c) = absurd (not-straight z)
+  is-cut (cut t c) = t
+
+  the-cut : Cut k
+  the-cut = is-cut (shape k (i .sized))
+
+  all-inside : All (Inside w h) (before ++ (q ∷ after))
+  all-inside = subst (All (Inside w h)) e (inside-parts w h k i the-cut)
+
+  pub part-inside : Inside w h q
+  part-inside = all-right (Inside w h) before (q ∷ after) all-inside .0
+
+  joined : Shape k → curve k ≡ flatten (map curve before) ++ (curve q ++ flatten (map curve after))
+  unfolding flatten
+  joined (in-run b z c) = absurd (not-straight z)
+  joined (in-side a z c) = absurd (not-straight z)
+  joined (cut t c) = c ∙ ap (λ qs. flatten (map curve qs)) e ∙ flatten-append curve before (q ∷ after)
+
+  lengths : (qs : List Block) → All (Inside w h) qs → length (flatten (map curve qs)) ≡ total area qs
+  lengths qs all = length-joined curve qs ∙ total-all (λ j. length (curve j)) area qs (All-map (λ j s. length-curve j (s .sized)) qs all)
+
+  skip-length : length (flatten (map curve before)) ≡ total area before
+  skip-length = lengths before (all-left (Inside w h) before (q ∷ after) all-inside)
+
+  -- the square of a number of the part
+  pub square-in : (n : ℕ) → n < area q → square-of k (total area before + n) ≡ square-of q n
+  unfolding square-of
+  square-in n l =
+      let start = flatten (map curve before) in
+      let rest = flatten (map curve after) in
+      ap₂ (λ zs m. getD zs m (square 0 0)) (joined (shape k (i .sized))) (ap (λ m. m + n) (sym skip-length))
+      ∙ getD-append-add start (curve q ++ rest) n (square 0 0)
+      ∙ List·getD-append (curve q) rest (square 0 0) n (subst⁻¹ (λ (m : ℕ). n < m) (length-curve q (part-inside .sized)) l)
+
+  module _ (p : Square) (held : holds q p ≡ true) where
+    -- the block holds the square, and no part before or after it does
+    alone : (total (holding p) before ≡ 0) × (total (holding p) after ≡ 0) × (one (holds k p) ≡ 1)
+    alone =
+        let here : holding p q ≡ 1 = ap one held in
+        let sum : total (holding p) before + (holding p q + total (holding p) after) ≡ one (holds k p) =
+          sym (total-append (holding p) before (q ∷ after)) ∙ ap (total (holding p)) (sym e) ∙ holds-parts w h k i the-cut p in
+        let most = one-le (holds k p) in
+        (omega arith, omega arith, omega arith)
+
+    pub held-above : holds k p ≡ true
+    held-above = one-true (holds k p) (let whole = alone .2 in omega arith)
+
+    pub number-in : number-of k p ≡ total area before + number-of q p
+    unfolding number-of
+    number-in =
+        let start = flatten (map curve before) in
+        let rest = flatten (map curve after) in
+        let not-before : count (same p) start ≡ 0 =
+          count-joined (same p) curve before
+          ∙ total-all (λ j. count (same p) (curve j)) (holding p) before
+          (All-map (λ j s. once w h j s p) before (all-left (Inside w h) before (q ∷ after) all-inside))
+          ∙ alone .0 in
+        let here : count (same p) (curve q) ≡ 1 = once w h q part-inside p ∙ ap one held in
+        ap (λ zs. place-in zs p) (joined (shape k (i .sized)))
+        ∙ place-right p start (curve q ++ rest) not-before
+        ∙ ap₂ _+_ skip-length (place-left p (curve q) rest (omega arith))
+
+    pub holding-in : blocks-holding k p ≡ suc (blocks-holding q p)
+    holding-in =
+        let deep : Block → ℕ = λ j. blocks-holding j p in
+        let none : (qs : List Block) → All (Inside w h) qs → total (holding p) qs ≡ 0 → total deep qs ≡ 0 =
+          λ qs all z. none-of (holding p) deep qs (All-map (λ j s. bounded w h j s p .none) qs all) z in
+        let first = none before (all-left (Inside w h) before (q ∷ after) all-inside) (alone .0) in
+        let last = none after (all-right (Inside w h) before (q ∷ after) all-inside .1) (alone .1) in
+        let sum : total deep (parts k) ≡ total deep before + (deep q + total deep after) = ap (total deep) e ∙ total-append deep before (q ∷ after) in
+        let one-more = holding-rule k p (i .sized) in
+        let whole = alone .2 in
+        omega arith
