@@ -5,13 +5,14 @@ use mathlib.Core.List.{List, [], _∷_, _++_, map, flatten}
 use mathlib.Core.Logic.{⊎-elim}
 use mathlib.Core.Path.{_≡_, refl, sym, ap, ap₂, subst, subst⁻¹, _∙_}
 use Prim.Native.Nat.{ℕ, zero, suc, _+_, _*_, _≤_, _<_}
-use native.Mathlib.Nat.{add-zero, add-assoc, zero-add}
+use native.Mathlib.Nat.{le-of-suc-le-suc}
+use native.Mathlib.Numerals.{one-add}
 use native.Mathlib.Omega.{arith}
 use lib.ListN.{length, getD, length-append, List·getD-append}
 use lib.Seq.{getD-append-add}
-use Rattle.division.specs.Division.{Square, square, Block, Part, part, parts, parts-of, choice, curve, holds, one, count, blocks-holding, same, place-in, square-of, number-of}
-use Rattle.division.specs.Division.Rules.{Sized, All, All-map, All-use, Cut, long, u, Shape, in-run, in-side, cut, shape, parts-are}
-use Rattle.division.proofs.Plane.{one-le}
+use Rattle.division.specs.Division.{Square, square, Direction, Block, parts, moved, row, curve, holds, one, count, blocks-holding, same, place-in, square-of, number-of}
+use Rattle.division.specs.Division.Rules.{Sized, All, All-map, Cut, Shape, in-run, in-side, cut, shape}
+use Rattle.division.proofs.Plane.{one-le, moved-add, moved-none}
 use Rattle.division.proofs.Sums.{total, total-all, total-append, count-joined, length-joined, flatten-append, none-of, all-left, all-right}
 use Rattle.division.proofs.Cuts.{Inside, area, inside-parts, holds-parts}
 use Rattle.division.proofs.Places.{place-left, place-right}
@@ -106,3 +107,22 @@ module _ (w h : ℕ) (k : Block) (i : Inside w h k) (before : List Block) (q : B
         let one-more = holding-rule k p (i .sized) in
         let whole = alone .2 in
         omega arith
+
+-- a straight block: its squares follow in its run or in its side, and it alone holds them
+row-at : (d : Direction) (n m : ℕ) (s z : Square) → m < n → getD (row d n s) m z ≡ moved d m s
+unfolding row
+row-at d zero m s z l = absurd (omega arith)
+row-at d (suc n) zero s z l = sym (moved-none d s)
+row-at d (suc n) (suc m) s z l =
+    row-at d n m (moved d 1 s) z (le-of-suc-le-suc l) ∙ moved-add d 1 m s ∙ ap (λ n. moved d n s) (one-add m)
+
+pub straight-holding : (k : Block) (p : Square) → Sized k → parts k ≡ [] → holds k p ≡ true → blocks-holding k p ≡ 1
+straight-holding k p s e held = holding-rule k p s ∙ rw (e, held)
+
+pub run-square : (k : Block) → curve k ≡ row (k .run) (k .a) (k .start) → (n : ℕ) → n < k .a → square-of k n ≡ moved (k .run) n (k .start)
+unfolding square-of
+run-square k c n l = ap (λ zs. getD zs n (square 0 0)) c ∙ row-at (k .run) (k .a) n (k .start) (square 0 0) l
+
+pub side-square : (k : Block) → curve k ≡ row (k .side) (k .b) (k .start) → (n : ℕ) → n < k .b → square-of k n ≡ moved (k .side) n (k .start)
+unfolding square-of
+side-square k c n l = ap (λ zs. getD zs n (square 0 0)) c ∙ row-at (k .side) (k .b) n (k .start) (square 0 0) l

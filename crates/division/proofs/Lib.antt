@@ -5,3 +5,4 @@ pub mod Once
 pub mod Places
 pub mod Blocks
 pub mod Descent
+pub mod Local

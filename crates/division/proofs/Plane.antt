@@ -6,7 +6,7 @@ use mathlib.Core.Path.{_≡_, refl, sym, ap, ap₂, subst, subst⁻¹, _∙_}
 use Prim.Native.Nat.{ℕ, zero, suc, _+_, _-_, _≤_, _<_, min}
 use native.Mathlib.Nat.{add-assoc, add-comm, add-zero, sub-zero, eq-zero-or-pos, min-comm}
 use native.Mathlib.Omega.{arith}
-use borrow.Author.Tests.{leb-true, leb-false, eqb-true, eqb-false, eq-eqb, ne-eqb}
+use borrow.Author.Tests.{le-leb, leb-true, leb-false, eqb-true, eqb-false, eq-eqb, ne-eqb}
 use lib.Dec.{leb, ltb, eqb}
 use Rattle.division.specs.Division.{Square, Direction, +x, +y, -x, -y, moved, against, within, same, one}
 
@@ -47,6 +47,13 @@ moved-add +x m n s = square-eq (omega arith) refl
 moved-add +y m n s = square-eq refl (omega arith)
 moved-add -x m n s = square-eq (omega arith) refl
 moved-add -y m n s = square-eq refl (omega arith)
+
+pub moved-none : (d : Direction) (s : Square) → moved d 0 s ≡ s
+unfolding moved
+moved-none +x s = square-eq (add-zero (s .x)) refl
+moved-none +y s = square-eq refl (add-zero (s .y))
+moved-none -x s = square-eq (sub-zero (s .x)) refl
+moved-none -y s = square-eq refl (sub-zero (s .y))
 
 -- steps in the two directions of a block go in either order
 pub moved-swap : {d t : Direction} → Paired d t → (m n : ℕ) (s : Square) → moved d m (moved t n s) ≡ moved t n (moved d m s)
@@ -263,3 +270,18 @@ same-within x-y s p = simp (one-and, eqb-up)
 same-within y-x s p = simp (one-and, eqb-up) (min-comm _ _)
 same-within x-y-back s p = simp (one-and, eqb-down)
 same-within y-x-back s p = simp (one-and, eqb-down) (min-comm _ _)
+
+-- a stretch holds the squares that its steps lead to, and steps across it change nothing
+pub within-moved : (w h : ℕ) (d : Direction) (n m : ℕ) (s : Square) → Room w h d n s → m < n → within d n s (moved d m s) ≡ true
+unfolding within moved
+within-moved w h +x n m s r l = rw (le-leb (s .x) (s .x + m) (omega arith), le-leb (suc (s .x + m)) (s .x + n) (omega arith))
+within-moved w h +y n m s r l = rw (le-leb (s .y) (s .y + m) (omega arith), le-leb (suc (s .y + m)) (s .y + n) (omega arith))
+within-moved w h -x n m s r l = rw (le-leb (s .x - m) (s .x) (omega arith), le-leb (suc (s .x)) (s .x - m + n) (omega arith))
+within-moved w h -y n m s r l = rw (le-leb (s .y - m) (s .y) (omega arith), le-leb (suc (s .y)) (s .y - m + n) (omega arith))
+
+pub within-aside : {d t : Direction} → Paired d t → (m n : ℕ) (s p : Square) → within d n s (moved t m p) ≡ within d n s p
+unfolding within moved
+within-aside x-y m n s p = refl
+within-aside y-x m n s p = refl
+within-aside x-y-back m n s p = refl
+within-aside y-x-back m n s p = refl

@@ -183,6 +183,9 @@ rule-of UCut k w = simp append-nil at w
 pub four-rules : (k : Block) → Sized k → Rule (choice (k .a) (k .b)) k
 four-rules k h = rule-of (choice (k .a) (k .b)) k (written k h)
 
+pub rule : (k : Block) (c : Choice) → Sized k → choice (k .a) (k .b) ≡ c → Rule c k
+rule k c h e = subst (λ (c : Choice). Rule c k) e (four-rules k h)
+
 -- A block is straight one way or the other, or it is cut in two or in three.
 pub data Cut (k : Block) : Type 0 where
   long : 2 ≤ k .a → 2 ≤ k .b → parts k ≡ part First k ∷ part Second k ∷ [] → Cut k

@@ -1,0 +1,329 @@
+-- The division in local coordinates, u along a block's run and v along its side: number, square and count of blocks depend on the lengths alone,
+-- so that a block of lengths a and b answers as the a by b area does. By induction over blocks: (u, v) lies in one part, at (u', v') of it.
+use mathlib.Core.Bool.{Bool, true, false, _&&_, and-eq-true-iff}
+use mathlib.Core.List.{List, [], _∷_, _++_, map, map-append}
+use mathlib.Core.Path.{_≡_, refl, sym, ap, ap₂, subst, subst⁻¹, _∙_}
+use Prim.Native.Nat.{ℕ, zero, suc, _+_, _-_, _*_, _/_, _≤_, _<_}
+use native.Mathlib.Nat.{mul-one, one-mul, zero-add, add-sub-of-le, le-of-suc-le-suc}
+use native.Mathlib.Decide.{decLt}
+use native.Mathlib.Omega.{arith}
+use borrow.Author.Tests.{ltb-true}
+use lib.Dec.{leb, ltb}
+use lib.ListN.{length, getD, length-map}
+use lib.Seq.{ext-getD}
+use Rattle.division.specs.declared.Choice.the-variants.{StraightRun, StraightSide, LongCut, UCut}
+use Rattle.division.specs.Division.{Square, square, Block, whole, choice, even-half, Part, First, Second, A, B, C, part, parts, parts-of, moved, row, against, within, holds, curve, blocks-holding, square-of, number-of}
+use Rattle.division.specs.Division.Rules.{Sized, All, All-map, Halves, halves, induction, Chosen, runs, sides, long, u, chosen, parts-are, rule}
+use Rattle.division.proofs.Plane.{Paired, turned, Room, moved-add, moved-swap, moved-back, moved-none, room-across, room-first, within-moved, within-aside}
+use Rattle.division.proofs.Sums.{total, all-right}
+use Rattle.division.proofs.Cuts.{Inside, area}
+use Rattle.division.proofs.Once.{length-curve, square-held, square-of-number, number-of-square}
+use Rattle.division.proofs.Blocks.{whole-inside}
+use Rattle.division.proofs.Descent.{run-square, side-square, straight-holding, part-inside, number-in, holding-in}
+
+not-lt : {m n : ℕ} → ¬ (m < n) → n ≤ m
+not-lt f = omega arith
+
+-- the square that lies u along a block's run and v along its side, where s = (u, v)
+unfoldable pub spot : Block → Square → Square
+spot k s = moved (k .side) (s .y) (moved (k .run) (s .x) (k .start))
+
+pub record Within (a b : ℕ) (s : Square) : Type 0 where
+  pub run : s .x < a
+  pub side : s .y < b
+
+-- where a part's (u, v) lies in an a by b block
+unfoldable pub inner : Part → ℕ → ℕ → Square → Square
+inner First a b s = s
+inner Second a b s = square (even-half a + s .x) (s .y)
+inner A a b s = square (s .y) (s .x)
+inner B a b s = square (s .x) (even-half b + s .y)
+inner C a b s = square (a - 1 - s .y) (even-half b - 1 - s .x)
+
+pub spot-whole : (a b : ℕ) (s : Square) → spot (whole a b) s ≡ s
+unfolding spot whole moved
+spot-whole a b s = λ i. record { x = zero-add (s .x) i; y = zero-add (s .y) i }
+
+module _ (w h : ℕ) (k : Block) (i : Inside w h k) where
+  -- a block holds what lies within its lengths
+  pub spot-held : (s : Square) → Within (k .a) (k .b) s → holds k (spot k s) ≡ true
+  unfolding spot holds
+  spot-held s l =
+      let along : within (k .run) (k .a) (k .start) (moved (k .side) (s .y) (moved (k .run) (s .x) (k .start))) ≡ true =
+        within-aside (i .paired) (s .y) (k .a) (k .start) (moved (k .run) (s .x) (k .start))
+        ∙ within-moved w h (k .run) (k .a) (s .x) (k .start) (i .run) (l .run) in
+      let across : within (k .side) (k .b) (k .start) (moved (k .side) (s .y) (moved (k .run) (s .x) (k .start))) ≡ true =
+        ap (within (k .side) (k .b) (k .start)) (moved-swap (turned (i .paired)) (s .y) (s .x) (k .start))
+        ∙ within-aside (turned (i .paired)) (s .x) (k .b) (k .start) (moved (k .side) (s .y) (k .start))
+        ∙ within-moved w h (k .side) (k .b) (s .y) (k .start) (i .side) (l .side) in
+      rw (along, across)
+
+  -- a part's (u, v) is the block's `inner` of it
+  pub spot-part : (p : Part) (s : Square) → 2 ≤ k .b → Within (part p k .a) (part p k .b) s → spot (part p k) s ≡ spot k (inner p (k .a) (k .b) s)
+  unfolding spot part inner
+  spot-part First s b l = refl
+  spot-part Second s b l = ap (moved (k .side) (s .y)) (moved-add (k .run) (even-half (k .a)) (s .x) (k .start))
+  spot-part A s b l = moved-swap (i .paired) (s .y) (s .x) (k .start)
+  spot-part B s b l =
+      ap (moved (k .side) (s .y)) (moved-swap (i .paired) (s .x) (even-half (k .b)) (k .start))
+      ∙ moved-add (k .side) (even-half (k .b)) (s .y) (moved (k .run) (s .x) (k .start))
+  spot-part C s b l =
+      let half = halves (k .b) b in
+      let e = even-half (k .b) in
+      let last = moved (k .run) (k .a - 1) (k .start) in
+      let up = moved (k .side) (e - 1 - s .x) (k .start) in
+      ap (moved (against (k .run)) (s .y))
+      (moved-back w h (k .side) e (s .x) last (room-across w h (turned (i .paired)) (k .a - 1) e (k .start) (room-first w h (k .side) e (k .b) (k .start) (i .side) (omega arith))) (l .run)
+      ∙ moved-swap (turned (i .paired)) (e - 1 - s .x) (k .a - 1) (k .start))
+      ∙ moved-back w h (k .run) (k .a) (s .y) up (room-across w h (i .paired) (e - 1 - s .x) (k .a) (k .start) (i .run)) (omega arith)
+      ∙ moved-swap (i .paired) (k .a - 1 - s .y) (e - 1 - s .x) (k .start)
+
+-- the part of an a by b block that (u, v) lies in, with (u, v) as that part has it
+pub record Lies (a b : ℕ) (s : Square) : Type 0 where
+  pub name : Part
+  pub before : List Part
+  pub after : List Part
+  pub are : parts-of (choice a b) ≡ before ++ (name ∷ after)
+  pub there : Square
+  pub within : Within (part name (whole a b) .a) (part name (whole a b) .b) there
+  pub back : inner name a b there ≡ s
+
+module _ (a b : ℕ) (s : Square) where
+  abbrev pub in-first : choice a b ≡ LongCut → s .x < even-half a → s .y < b → Lies a b s
+  unfolding part parts-of inner whole
+  in-first c l m =
+      record { name = First; before = []; after = Second ∷ []; are = ap parts-of c; there = s; within = record { run = l; side = m }; back = refl }
+
+  abbrev pub in-second : choice a b ≡ LongCut → even-half a ≤ s .x → s .x < a → s .y < b → Lies a b s
+  unfolding part parts-of inner whole
+  in-second c l r m =
+      record {
+        name = Second;
+        before = First ∷ [];
+        after = [];
+        are = ap parts-of c;
+        there = square (s .x - even-half a) (s .y);
+        within = record { run = omega arith; side = m };
+        back = λ i. square (add-sub-of-le l i) (s .y)
+      }
+
+  abbrev pub in-a : choice a b ≡ UCut → s .x < a / 2 → s .y < even-half b → Lies a b s
+  unfolding part parts-of inner whole
+  in-a c l m =
+      record { name = A; before = []; after = B ∷ C ∷ []; are = ap parts-of c; there = square (s .y) (s .x); within = record { run = m; side = l }; back = refl }
+
+  abbrev pub in-b : choice a b ≡ UCut → s .x < a → even-half b ≤ s .y → s .y < b → Lies a b s
+  unfolding part parts-of inner whole
+  in-b c l m r =
+      record {
+        name = B;
+        before = A ∷ [];
+        after = C ∷ [];
+        are = ap parts-of c;
+        there = square (s .x) (s .y - even-half b);
+        within = record { run = l; side = omega arith };
+        back = λ i. square (s .x) (add-sub-of-le m i)
+      }
+
+  abbrev pub in-c : choice a b ≡ UCut → a / 2 ≤ s .x → s .x < a → s .y < even-half b → Lies a b s
+  unfolding part parts-of inner whole
+  in-c c l r m =
+      record {
+        name = C;
+        before = A ∷ B ∷ [];
+        after = [];
+        are = ap parts-of c;
+        there = square (even-half b - 1 - s .y) (a - 1 - s .x);
+        within = record { run = omega arith; side = omega arith };
+        back = ap₂ square (omega arith) (omega arith)
+      }
+
+-- a block with another's lengths
+abbrev resized : Block → Block → Block
+resized j k = record { start = j .start; run = j .run; a = k .a; side = j .side; b = k .b }
+
+-- a part's lengths depend on its block's lengths alone
+part-resized : (j k : Block) (p : Part) → part p (resized j k) ≡ resized (part p (resized j k)) (part p k)
+unfolding part
+part-resized j k First = refl
+part-resized j k Second = refl
+part-resized j k A = refl
+part-resized j k B = refl
+part-resized j k C = refl
+
+part-whole : (j : Block) (p : Part) → whole (part p j .a) (part p j .b) ≡ whole (part p (whole (j .a) (j .b)) .a) (part p (whole (j .a) (j .b)) .b)
+unfolding part whole
+part-whole j First = refl
+part-whole j Second = refl
+part-whole j A = refl
+part-whole j B = refl
+part-whole j C = refl
+
+-- the squares of some parts of an a by b block
+pub squares-of : ℕ → ℕ → List Part → ℕ
+squares-of a b ps = total (λ p. area (part p (whole a b))) ps
+
+squares-in : (j : Block) (ps : List Part) → total area (map (λ p. part p j) ps) ≡ squares-of (j .a) (j .b) ps
+unfolding squares-of whole
+squares-in j [] = refl
+squares-in j (p ∷ ps) = ap₂ _+_ (ap area (part-whole j p)) (squares-in j ps)
+
+-- what a block answers at (u, v): the number of the square there, and how many blocks hold it
+pub record Answer (j : Block) (s : Square) (number holding : ℕ) : Type 0 where
+  pub number-is : number-of j (spot j s) ≡ number
+  pub holding-is : blocks-holding j (spot j s) ≡ holding
+
+-- in a straight block the number is how far along the square lies, and the block alone holds it
+module _ (w h : ℕ) (k : Block) (i : Inside w h k) (s : Square) (l : Within (k .a) (k .b) s) where
+  run-answer : choice (k .a) (k .b) ≡ StraightRun → k .b ≡ 1 → Answer k s (s .x) 1
+  unfolding parts-of spot
+  run-answer e b =
+      let c = rule k StraightRun (i .sized) e .0 in
+      let z : s .y ≡ 0 = let across = l .side in omega arith in
+      let there : spot k s ≡ square-of k (s .x) =
+        ap (λ n. moved (k .side) n (moved (k .run) (s .x) (k .start))) z
+        ∙ moved-none (k .side) (moved (k .run) (s .x) (k .start))
+        ∙ sym (run-square k c (s .x) (l .run)) in
+      record {
+        number-is = ap (number-of k) there ∙ number-of-square w h k i (s .x) (rw (b, mul-one) (l .run));
+        holding-is = straight-holding k (spot k s) (i .sized) (parts-are k StraightRun e) (spot-held w h k i s l)
+      }
+
+  side-answer : choice (k .a) (k .b) ≡ StraightSide → k .a ≡ 1 → Answer k s (s .y) 1
+  unfolding parts-of spot
+  side-answer e a =
+      let c = rule k StraightSide (i .sized) e .0 in
+      let z : s .x ≡ 0 = let along = l .run in omega arith in
+      let there : spot k s ≡ square-of k (s .y) =
+        ap (λ n. moved (k .side) (s .y) (moved (k .run) n (k .start))) z
+        ∙ ap (moved (k .side) (s .y)) (moved-none (k .run) (k .start))
+        ∙ sym (side-square k c (s .y) (l .side)) in
+      record {
+        number-is = ap (number-of k) there ∙ number-of-square w h k i (s .y) (rw (a, one-mul) (l .side));
+        holding-is = straight-holding k (spot k s) (i .sized) (parts-are k StraightSide e) (spot-held w h k i s l)
+      }
+
+lies-parts : (j : Block) (s : Square) (lies : Lies (j .a) (j .b) s)
+    → parts j ≡ map (λ p. part p j) (lies .before) ++ (part (lies .name) j ∷ map (λ p. part p j) (lies .after))
+unfolding parts
+lies-parts j s lies = ap (map (λ p. part p j)) (lies .are) ∙ map-append (λ p. part p j) (lies .before) (lies .name ∷ lies .after)
+
+lies-within : (j : Block) (s : Square) (lies : Lies (j .a) (j .b) s) → Within (part (lies .name) j .a) (part (lies .name) j .b) (lies .there)
+unfolding whole
+lies-within j s lies = subst⁻¹ (λ (k : Block). Within (k .a) (k .b) (lies .there)) (part-whole j (lies .name)) (lies .within)
+
+-- in a cut block the number is what the part says, behind the parts before it, and one block more holds the square
+module _ (w h : ℕ) (j : Block) (i : Inside w h j) (two : 2 ≤ j .b) (s : Square) (lies : Lies (j .a) (j .b) s) where
+  pub lies-inside : Inside w h (part (lies .name) j)
+  lies-inside = part-inside w h j i (map (λ p. part p j) (lies .before)) (part (lies .name) j) (map (λ p. part p j) (lies .after)) (lies-parts j s lies)
+
+  cut-answer : (n m : ℕ) → Answer (part (lies .name) j) (lies .there) n m → Answer j s (squares-of (j .a) (j .b) (lies .before) + n) (suc m)
+  cut-answer n m answer =
+      let q = part (lies .name) j in
+      let before = map (λ p. part p j) (lies .before) in
+      let after = map (λ p. part p j) (lies .after) in
+      let l = lies-within j s lies in
+      let there : spot j s ≡ spot q (lies .there) = ap (spot j) (sym (lies .back)) ∙ sym (spot-part w h j i (lies .name) (lies .there) two l) in
+      let held = spot-held w h q lies-inside (lies .there) l in
+      record {
+        number-is = ap (number-of j) there ∙ number-in w h j i before q after (lies-parts j s lies) (spot q (lies .there)) held ∙ ap₂ _+_ (squares-in j (lies .before)) (answer .number-is);
+        holding-is = ap (blocks-holding j) there ∙ holding-in w h j i before q after (lies-parts j s lies) (spot q (lies .there)) held ∙ ap suc (answer .holding-is)
+      }
+
+-- every (u, v) of a cut block lies in a part
+lies-long : (a b : ℕ) (s : Square) → Within a b s → choice a b ≡ LongCut → Lies a b s
+lies-long a b s l c = by (decLt (s .x) (even-half a))
+  where
+    by : Dec (s .x < even-half a) → Lies a b s
+    by (yes y) = in-first a b s c y (l .side)
+    by (no n) = in-second a b s c (not-lt n) (l .run) (l .side)
+
+lies-u : (a b : ℕ) (s : Square) → Within a b s → choice a b ≡ UCut → Lies a b s
+lies-u a b s l c = by (decLt (s .y) (even-half b)) (decLt (s .x) (a / 2))
+  where
+    by : Dec (s .y < even-half b) → Dec (s .x < a / 2) → Lies a b s
+    by (no n) d = in-b a b s c (l .run) (not-lt n) (l .side)
+    by (yes y) (yes z) = in-a a b s c z y
+    by (yes y) (no m) = in-c a b s c (not-lt m) (l .run) y
+
+-- the answer is the same wherever a block of these lengths stands
+abbrev Everywhere : Block → Type 0
+Everywhere k =
+    (s : Square) → Within (k .a) (k .b) s → (n : ℕ) × (m : ℕ) × ((w h : ℕ) (j : Block) → Inside w h (resized j k) → Answer (resized j k) s n m)
+
+everywhere-cut : (k : Block) → All Everywhere (parts k) → 2 ≤ k .b → (s : Square) (lies : Lies (k .a) (k .b) s)
+    → (n : ℕ) × (m : ℕ) × ((w h : ℕ) (j : Block) → Inside w h (resized j k) → Answer (resized j k) s n m)
+everywhere-cut k all two s lies =
+    let p = lies .name in
+    let part-all : Everywhere (part p k) =
+      all-right Everywhere (map (λ p. part p k) (lies .before)) (part p k ∷ map (λ p. part p k) (lies .after)) (subst (All Everywhere) (lies-parts k s lies) all) .0 in
+    let answers = part-all (lies .there) (lies-within k s lies) in
+    (squares-of (k .a) (k .b) (lies .before) + answers .0, suc (answers .1), λ w h j i.
+      cut-answer w h (resized j k) i two s lies (answers .0) (answers .1)
+      (subst⁻¹ (λ (q : Block). Answer q (lies .there) (answers .0) (answers .1)) (part-resized j k p)
+      (answers .2 w h (part p (resized j k)) (subst (Inside w h) (part-resized j k p) (lies-inside w h (resized j k) i two s lies)))))
+
+everywhere-by : (k : Block) → Sized k → All Everywhere (parts k) → Chosen (k .a) (k .b) → Everywhere k
+everywhere-by k z all (runs e b) s l = (s .x, 1, λ w h j i. run-answer w h (resized j k) i s l e b)
+everywhere-by k z all (sides e a b) s l = (s .y, 1, λ w h j i. side-answer w h (resized j k) i s l e a)
+everywhere-by k z all (long e a b t) s l = everywhere-cut k all b s (lies-long (k .a) (k .b) s l e)
+everywhere-by k z all (u e a b t) s l = everywhere-cut k all b s (lies-u (k .a) (k .b) s l e)
+
+everywhere : (k : Block) → Sized k → Everywhere k
+everywhere = induction Everywhere (λ k z all. everywhere-by k z all (chosen k z))
+
+-- A block of lengths a and b answers at (u, v) as the a by b area does.
+pub alike : (w h : ℕ) (k : Block) → Inside w h k → (s : Square) → Within (k .a) (k .b) s
+    → Answer k s (number-of (whole (k .a) (k .b)) s) (blocks-holding (whole (k .a) (k .b)) s)
+unfolding whole
+alike w h k i s l =
+    let answers = everywhere k (i .sized) s l in
+    let here = answers .2 w h k i in
+    let there = answers .2 (k .a) (k .b) (whole (k .a) (k .b)) (whole-inside (k .a) (k .b) (i .sized .run) (i .sized .side)) in
+    let is : spot (whole (k .a) (k .b)) s ≡ s = spot-whole (k .a) (k .b) s in
+    record {
+      number-is = here .number-is ∙ sym (there .number-is) ∙ ap (number-of (whole (k .a) (k .b))) is;
+      holding-is = here .holding-is ∙ sym (there .holding-is) ∙ ap (blocks-holding (whole (k .a) (k .b))) is
+    }
+
+-- an area holds the squares within its lengths
+pub whole-holds : (a b : ℕ) (s : Square) → Within a b s → holds (whole a b) s ≡ true
+unfolding whole
+whole-holds a b s l =
+    subst (λ (p : Square). holds (whole a b) p ≡ true) (spot-whole a b s)
+    (spot-held a b (whole a b) (whole-inside a b (omega arith) (omega arith)) s l)
+
+pub whole-within : (a b : ℕ) (s : Square) → holds (whole a b) s ≡ true → Within a b s
+unfolding whole holds within
+whole-within a b s e =
+    let x = and-eq-true-iff (leb 0 (s .x) && ltb (s .x) (0 + a)) (leb 0 (s .y) && ltb (s .y) (0 + b)) .0 e in
+    let u = ltb-true (s .x) (0 + a) (and-eq-true-iff (leb 0 (s .x)) (ltb (s .x) (0 + a)) .0 (x .0) .1) in
+    let v = ltb-true (s .y) (0 + b) (and-eq-true-iff (leb 0 (s .y)) (ltb (s .y) (0 + b)) .0 (x .1) .1) in
+    record { run = omega arith; side = omega arith }
+
+getD-map-in : (f : Square → Square) (zs : List Square) (n : ℕ) (d z : Square) → n < length zs → getD (map f zs) n d ≡ f (getD zs n z)
+getD-map-in f [] n d z l = absurd (omega arith)
+getD-map-in f (x ∷ zs) zero d z l = refl
+getD-map-in f (x ∷ zs) (suc n) d z l = getD-map-in f zs n d z (le-of-suc-le-suc l)
+
+-- The one law that ties the local form to the placed blocks: a block's curve is that of the a by b area, each (u, v) put where it lies.
+pub square-alike : (w h : ℕ) (k : Block) → Inside w h k → (n : ℕ) → n < area k → square-of k n ≡ spot k (square-of (whole (k .a) (k .b)) n)
+unfolding whole
+square-alike w h k i n l =
+    let all = whole (k .a) (k .b) in
+    let all-inside = whole-inside (k .a) (k .b) (i .sized .run) (i .sized .side) in
+    let s = square-of all n in
+    let within = whole-within (k .a) (k .b) s (square-held (k .a) (k .b) all all-inside n l) in
+    ap (square-of k) (sym (alike w h k i s within .number-is ∙ number-of-square (k .a) (k .b) all all-inside n l))
+    ∙ square-of-number w h k i (spot k s) (spot-held w h k i s within)
+
+pub curve-alike : (w h : ℕ) (k : Block) → Inside w h k → curve k ≡ map (spot k) (curve (whole (k .a) (k .b)))
+unfolding square-of whole
+curve-alike w h k i =
+    let all = whole (k .a) (k .b) in
+    let all-length = length-curve all (whole-inside (k .a) (k .b) (i .sized .run) (i .sized .side) .sized) in
+    let k-length = length-curve k (i .sized) in
+    ext-getD (square 0 0) (curve k) (map (spot k) (curve all)) (k-length ∙ sym (length-map (curve all) (spot k) ∙ all-length))
+    (λ n l. let below : n < area k = subst (λ (m : ℕ). n < m) k-length l in
+      square-alike w h k i n below
+      ∙ sym (getD-map-in (spot k) (curve all) n (square 0 0) (square 0 0) (subst⁻¹ (λ (m : ℕ). n < m) all-length below)))
