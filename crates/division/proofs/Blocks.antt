@@ -1,21 +1,21 @@
 -- How many blocks a division has, and how many of them hold one square: demand 3. By induction over blocks: at most one part holds the square,
 -- a part has at most two thirds of its block's squares, and a cut block has at least 4.
-use mathlib.Core.Bool.{Bool, true, false}
 use mathlib.Core.List.{List, [], _∷_, map, flatten}
-use mathlib.Core.Logic.{_⊎_, inl, inr, ⊎-elim}
-use mathlib.Core.Path.{_≡_, refl, sym, ap, ap₂, subst, subst⁻¹, _∙_}
-use Prim.Native.Nat.{ℕ, zero, suc, _+_, _-_, _*_, _^_, _≤_, _<_}
-use native.Mathlib.Nat.{le-refl, le-trans, mul-assoc, mul-comm, mul-le-mul, mul-le-mul-left, mul-le-mul-right, mul-right-comm, pow-suc, eq-or-lt-of-le, lt-of-not-le}
+use mathlib.Core.Logic.{⊎-elim}
+use mathlib.Core.Path.{_≡_, sym, ap, subst⁻¹, _∙_}
+use Prim.Native.Nat.{ℕ, suc, _+_, _*_, _^_, _≤_, _<_}
+use native.Mathlib.Nat.{mul-assoc, mul-comm, mul-le-mul, mul-le-mul-left, mul-le-mul-right, mul-right-comm, pow-suc, eq-or-lt-of-le, lt-of-not-le}
 use native.Mathlib.Decide.{decLe, le-ind}
 use native.Mathlib.Numerals.{one-add}
 use native.Mathlib.Omega.{arith}
 use lib.Dec.{lit<, lit≤}
 use lib.ListN.{length}
 use Rattle.division.specs.Division.{Square, Block, whole, parts, blocks, holds, one, count, blocks-holding}
-use Rattle.division.specs.Division.Rules.{Sized, All, All-map, All-use, Smaller, smaller, induction, blocks-rule, Cut, long, u, Shape, in-run, in-side, cut, shape}
-use Rattle.division.proofs.Plane.{x-y, one-le}
-use Rattle.division.proofs.Sums.{total, total-all, count-joined, length-joined, all-joined, none-of, one-of}
-use Rattle.division.proofs.Cuts.{Inside, area, areas, inside-parts, holds-parts}
+use Rattle.division.specs.Division.Inside.{Sized, x-y, Inside}
+use Rattle.division.specs.Division.Rules.{All, All-map, All-use, Smaller, smaller, induction, blocks-rule, Cut, long, u, Shape, in-run, in-side, cut, shape}
+use Rattle.division.proofs.Plane.{one-le}
+use Rattle.division.proofs.Sums.{total, count-joined, length-joined, all-joined, none-of, one-of}
+use Rattle.division.proofs.Cuts.{area, areas, inside-parts, holds-parts}
 
 -- a cut block has at least 4 squares and two parts
 four : (k : Block) → Cut k → 4 ≤ area k

@@ -1,21 +1,13 @@
 -- A cut's parts make up the block and share no square, and lie within whatever area the block lies in.
-use mathlib.Core.Bool.{Bool, true, false, _&&_}
-use mathlib.Core.List.{List, [], _∷_}
-use mathlib.Core.Path.{_≡_, refl, sym, ap, ap₂, subst, subst⁻¹, _∙_}
-use Prim.Native.Nat.{ℕ, zero, suc, _+_, _-_, _*_, _/_, _≤_, _<_, min}
+use mathlib.Core.Path.{_≡_, sym, ap, subst⁻¹, _∙_}
+use Prim.Native.Nat.{ℕ, _+_, _-_, _*_, _/_, _≤_, min}
 use native.Mathlib.Nat.{add-zero, mul-add, add-mul, mul-comm}
 use native.Mathlib.Omega.{arith}
-use Rattle.division.specs.Division.{Square, Direction, Block, whole, even-half, Part, First, Second, A, B, C, part, parts, moved, against, within, holds, one}
-use Rattle.division.specs.Division.Rules.{Sized, All, Halves, halves, Cut, long, u}
-use Rattle.division.proofs.Plane.{Paired, turned, reversed, Room, moved-add, moved-swap, room-on, room-back, room-across, room-first, one-and, one-le, min-split, within-cut, within-back, within-across}
+use Rattle.division.specs.Division.{Square, Block, even-half, First, Second, A, B, C, part, parts, moved, within, holds, one}
+use Rattle.division.specs.Division.Inside.{Inside}
+use Rattle.division.specs.Division.Rules.{All, halves, Cut, long, u}
+use Rattle.division.proofs.Plane.{turned, reversed, moved-add, moved-swap, room-on, room-back, room-across, room-first, one-and, one-le, min-split, within-cut, within-back, within-across}
 use Rattle.division.proofs.Sums.{total}
-
--- a sized block, with one of the four pairs of directions, that lies within a w by h area
-pub record Inside (w h : ℕ) (k : Block) : Type 0 where
-  pub sized : Sized k
-  pub paired : Paired (k .run) (k .side)
-  pub run : Room w h (k .run) (k .a) (k .start)
-  pub side : Room w h (k .side) (k .b) (k .start)
 
 abbrev pub area : Block → ℕ
 area k = k .a * k .b

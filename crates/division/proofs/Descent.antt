@@ -1,23 +1,23 @@
 -- From a block down into one of its parts: the part's numbers stand in the block's behind those of the parts before it, and one more block
 -- holds each of its squares. What a lookup does at each step.
-use mathlib.Core.Bool.{Bool, true, false}
+use mathlib.Core.Bool.{true}
 use mathlib.Core.List.{List, [], _∷_, _++_, map, flatten}
-use mathlib.Core.Logic.{⊎-elim}
-use mathlib.Core.Path.{_≡_, refl, sym, ap, ap₂, subst, subst⁻¹, _∙_}
-use Prim.Native.Nat.{ℕ, zero, suc, _+_, _*_, _≤_, _<_}
+use mathlib.Core.Path.{_≡_, sym, ap, ap₂, subst, subst⁻¹, _∙_}
+use Prim.Native.Nat.{ℕ, zero, suc, _+_, _<_}
 use native.Mathlib.Nat.{le-of-suc-le-suc}
 use native.Mathlib.Numerals.{one-add}
 use native.Mathlib.Omega.{arith}
-use lib.ListN.{length, getD, length-append, List·getD-append}
+use lib.ListN.{length, getD, List·getD-append}
 use lib.Seq.{getD-append-add}
 use Rattle.division.specs.Division.{Square, square, Direction, Block, parts, moved, row, curve, holds, one, count, blocks-holding, same, place-in, square-of, number-of}
-use Rattle.division.specs.Division.Rules.{Sized, All, All-map, Cut, Shape, in-run, in-side, cut, shape}
+use Rattle.division.specs.Division.Inside.{Sized, Inside}
+use Rattle.division.specs.Division.Rules.{All, All-map, Cut, Shape, in-run, in-side, cut, shape}
 use Rattle.division.proofs.Plane.{one-le, moved-add, moved-none}
 use Rattle.division.proofs.Sums.{total, total-all, total-append, count-joined, length-joined, flatten-append, none-of, all-left, all-right}
-use Rattle.division.proofs.Cuts.{Inside, area, inside-parts, holds-parts}
+use Rattle.division.proofs.Cuts.{area, inside-parts, holds-parts}
 use Rattle.division.proofs.Places.{place-left, place-right}
 use Rattle.division.proofs.Once.{length-curve, once, one-true}
-use Rattle.division.proofs.Blocks.{Bounded, bounded, holding-rule}
+use Rattle.division.proofs.Blocks.{bounded, holding-rule}
 
 -- 1 where a block holds the square
 abbrev holding : Square → Block → ℕ

@@ -1,9 +1,9 @@
 -- The division in local coordinates, u along a block's run and v along its side: number, square and count of blocks depend on the lengths alone,
 -- so that a block of lengths a and b answers as the a by b area does. By induction over blocks: (u, v) lies in one part, at (u', v') of it.
-use mathlib.Core.Bool.{Bool, true, false, _&&_, and-eq-true-iff}
+use mathlib.Core.Bool.{true, _&&_, and-eq-true-iff}
 use mathlib.Core.List.{List, [], _∷_, _++_, map, map-append}
 use mathlib.Core.Path.{_≡_, refl, sym, ap, ap₂, subst, subst⁻¹, _∙_}
-use Prim.Native.Nat.{ℕ, zero, suc, _+_, _-_, _*_, _/_, _≤_, _<_}
+use Prim.Native.Nat.{ℕ, zero, suc, _+_, _-_, _/_, _≤_, _<_}
 use native.Mathlib.Nat.{mul-one, one-mul, zero-add, add-sub-of-le, le-of-suc-le-suc}
 use native.Mathlib.Decide.{decLt}
 use native.Mathlib.Omega.{arith}
@@ -12,11 +12,12 @@ use lib.Dec.{leb, ltb}
 use lib.ListN.{length, getD, length-map}
 use lib.Seq.{ext-getD}
 use Rattle.division.specs.declared.Choice.the-variants.{StraightRun, StraightSide, LongCut, UCut}
-use Rattle.division.specs.Division.{Square, square, Block, whole, choice, even-half, Part, First, Second, A, B, C, part, parts, parts-of, moved, row, against, within, holds, curve, blocks-holding, square-of, number-of}
-use Rattle.division.specs.Division.Rules.{Sized, All, All-map, Halves, halves, induction, Chosen, runs, sides, long, u, chosen, parts-are, rule}
-use Rattle.division.proofs.Plane.{Paired, turned, Room, moved-add, moved-swap, moved-back, moved-none, room-across, room-first, within-moved, within-aside}
+use Rattle.division.specs.Division.{Square, square, Block, whole, choice, even-half, Part, First, Second, A, B, C, part, parts, parts-of, moved, against, within, holds, curve, blocks-holding, square-of, number-of}
+use Rattle.division.specs.Division.Inside.{Sized, Inside}
+use Rattle.division.specs.Division.Rules.{All, halves, induction, Chosen, runs, sides, long, u, chosen, parts-are, rule}
+use Rattle.division.proofs.Plane.{turned, moved-add, moved-swap, moved-back, moved-none, room-across, room-first, within-moved, within-aside}
 use Rattle.division.proofs.Sums.{total, all-right}
-use Rattle.division.proofs.Cuts.{Inside, area}
+use Rattle.division.proofs.Cuts.{area}
 use Rattle.division.proofs.Once.{length-curve, square-held, square-of-number, number-of-square}
 use Rattle.division.proofs.Blocks.{whole-inside}
 use Rattle.division.proofs.Descent.{run-square, side-square, straight-holding, part-inside, number-in, holding-in}
@@ -327,3 +328,30 @@ curve-alike w h k i =
     (λ n l. let below : n < area k = subst (λ (m : ℕ). n < m) k-length l in
       square-alike w h k i n below
       ∙ sym (getD-map-in (spot k) (curve all) n (square 0 0) (square 0 0) (subst⁻¹ (λ (m : ℕ). n < m) all-length below)))
+
+-- what an area answers at (u, v), by its case: the steps of a search that needs no start and no direction
+module _ (a b : ℕ) (pa : 1 ≤ a) (pb : 1 ≤ b) (s : Square) where
+  all : Inside a b (whole a b)
+  all = whole-inside a b pa pb
+
+  at-whole : (n m : ℕ) → Answer (whole a b) s n m → (number-of (whole a b) s ≡ n) × (blocks-holding (whole a b) s ≡ m)
+  at-whole n m answer =
+      (ap (number-of (whole a b)) (sym (spot-whole a b s)) ∙ answer .number-is, ap (blocks-holding (whole a b)) (sym (spot-whole a b s)) ∙ answer .holding-is)
+
+  pub area-run : Within a b s → choice a b ≡ StraightRun → b ≡ 1 → (number-of (whole a b) s ≡ s .x) × (blocks-holding (whole a b) s ≡ 1)
+  unfolding whole
+  area-run l e one = at-whole (s .x) 1 (run-answer a b (whole a b) all s l e one)
+
+  pub area-side : Within a b s → choice a b ≡ StraightSide → a ≡ 1 → (number-of (whole a b) s ≡ s .y) × (blocks-holding (whole a b) s ≡ 1)
+  unfolding whole
+  area-side l e one = at-whole (s .y) 1 (side-answer a b (whole a b) all s l e one)
+
+  pub area-cut : 2 ≤ b → (lies : Lies a b s)
+      → (number-of (whole a b) s ≡ squares-of a b (lies .before) + number-of (whole (part (lies .name) (whole a b) .a) (part (lies .name) (whole a b) .b)) (lies .there))
+      × (blocks-holding (whole a b) s ≡ suc (blocks-holding (whole (part (lies .name) (whole a b) .a) (part (lies .name) (whole a b) .b)) (lies .there)))
+  unfolding whole
+  area-cut two lies =
+      let q = part (lies .name) (whole a b) in
+      at-whole (squares-of a b (lies .before) + number-of (whole (q .a) (q .b)) (lies .there)) (suc (blocks-holding (whole (q .a) (q .b)) (lies .there)))
+      (cut-answer a b (whole a b) all two s lies (number-of (whole (q .a) (q .b)) (lies .there)) (blocks-holding (whole (q .a) (q .b)) (lies .there))
+      (alike a b q (lies-inside a b (whole a b) all two s lies) (lies .there) (lies .within)))

@@ -1,18 +1,18 @@
 -- The curve of a block has a·b squares, each square of the block is in it exactly once, and no other. So number and square undo each other.
 -- By induction over blocks: counts add up over the parts, and each square of a cut block is in exactly one part.
 use mathlib.Core.Bool.{Bool, true, false}
-use mathlib.Core.List.{List, [], _∷_, map, flatten}
 use mathlib.Core.Path.{_≡_, refl, sym, ap, ap₂, subst, subst⁻¹, _∙_}
 use Prim.Native.Nat.{ℕ, zero, suc, _+_, _*_, _≤_, _<_, min}
 use native.Mathlib.Nat.{mul-one, one-mul, min-comm}
 use native.Mathlib.Numerals.{one-add}
 use native.Mathlib.Omega.{arith}
 use lib.ListN.{length, getD}
-use Rattle.division.specs.Division.{Square, square, Direction, Block, whole, parts, moved, row, curve, within, holds, one, count, same, square-of, number-of}
-use Rattle.division.specs.Division.Rules.{Sized, All, All-use, induction, Shape, in-run, in-side, cut, shape}
-use Rattle.division.proofs.Plane.{Paired, turned, Room, room-on, one-and, one-le, min-split, within-none, within-split, within-across, same-within}
-use Rattle.division.proofs.Sums.{total, total-all, count-joined, length-joined}
-use Rattle.division.proofs.Cuts.{Inside, area, areas, inside-parts, holds-parts}
+use Rattle.division.specs.Division.{Square, square, Direction, Block, parts, moved, row, curve, within, holds, one, count, same, square-of, number-of}
+use Rattle.division.specs.Division.Inside.{Sized, Paired, Room, Inside}
+use Rattle.division.specs.Division.Rules.{All, All-use, induction, Shape, in-run, in-side, cut, shape}
+use Rattle.division.proofs.Plane.{turned, room-on, one-and, one-le, min-split, within-none, within-split, within-across, same-within}
+use Rattle.division.proofs.Sums.{total-all, count-joined, length-joined}
+use Rattle.division.proofs.Cuts.{area, areas, inside-parts, holds-parts}
 use Rattle.division.proofs.Places.{counted, found, unique}
 
 row-length : (d : Direction) (n : ℕ) (s : Square) → length (row d n s) ≡ n

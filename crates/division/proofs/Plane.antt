@@ -3,20 +3,15 @@
 use mathlib.Core.Bool.{Bool, true, false, _&&_}
 use mathlib.Core.Logic.{⊎-elim}
 use mathlib.Core.Path.{_≡_, refl, sym, ap, ap₂, subst, subst⁻¹, _∙_}
-use Prim.Native.Nat.{ℕ, zero, suc, _+_, _-_, _≤_, _<_, min}
+use Prim.Native.Nat.{ℕ, suc, _+_, _-_, _≤_, _<_, min}
 use native.Mathlib.Nat.{add-assoc, add-comm, add-zero, sub-zero, eq-zero-or-pos, min-comm}
 use native.Mathlib.Omega.{arith}
 use borrow.Author.Tests.{le-leb, leb-true, leb-false, eqb-true, eqb-false, eq-eqb, ne-eqb}
 use lib.Dec.{leb, ltb, eqb}
 use Rattle.division.specs.Division.{Square, Direction, +x, +y, -x, -y, moved, against, within, same, one}
+use Rattle.division.specs.Division.Inside.{Paired, x-y, y-x, x-y-back, y-x-back, Room}
 
--- the pairs of run and side direction that occur
-pub data Paired : Direction → Direction → Type 0 where
-  x-y : Paired +x +y
-  y-x : Paired +y +x
-  x-y-back : Paired -x -y
-  y-x-back : Paired -y -x
-
+-- the parts of a block with such a pair of directions have such a pair
 pub turned : {d t : Direction} → Paired d t → Paired t d
 turned x-y = y-x
 turned y-x = x-y
@@ -29,13 +24,6 @@ reversed x-y = x-y-back
 reversed y-x = y-x-back
 reversed x-y-back = x-y
 reversed y-x-back = y-x
-
--- the n squares from s in direction d, s counted, have room in a w by h area
-abbrev pub Room : (w h : ℕ) → Direction → ℕ → Square → Type 0
-Room w h +x n s = s .x + n ≤ w
-Room w h +y n s = s .y + n ≤ h
-Room w h -x n s = (n ≤ s .x + 1) × (s .x < w)
-Room w h -y n s = (n ≤ s .y + 1) × (s .y < h)
 
 square-eq : {p q : Square} → p .x ≡ q .x → p .y ≡ q .y → p ≡ q
 square-eq e f = λ i. record { x = e i; y = f i }

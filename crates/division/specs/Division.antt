@@ -1,12 +1,13 @@
 -- The division of a rectangle, and the curve through its squares: document 01, "The division of a rectangle", in that section's order
 -- and words, one definition under each of its sentences. Lengths, coordinates and numbers are natural numbers.
 use mathlib.Core.Bool.{Bool, true, false, _&&_}
-use mathlib.Core.List.{List, [], _∷_, _++_, map, flatten}
+use mathlib.Core.List.{List, [], _∷_, map, flatten}
 use Prim.Native.Nat.{ℕ, zero, suc, _+_, _-_, _*_, _/_, _%_}
 use lib.Dec.{leb, ltb, eqb}
 use lib.ListN.{getD}
 use Rattle.division.specs.declared.Choice.{Choice}
 use Rattle.division.specs.declared.Choice.the-variants.{StraightRun, StraightSide, LongCut, UCut}
+pub mod Inside
 pub mod Rules
 pub mod Worked
 

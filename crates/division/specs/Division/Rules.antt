@@ -2,7 +2,7 @@
 -- the one induction over blocks that every further law uses. A sized block has both lengths at least 1.
 use mathlib.Core.Bool.{Bool, true, false, _&&_}
 use mathlib.Core.List.{List, [], _∷_, _++_, map, flatten, append-nil}
-use mathlib.Core.Path.{_≡_, refl, sym, ap, ap₂, subst, subst⁻¹, _∙_}
+use mathlib.Core.Path.{_≡_, refl, ap, ap₂, subst, subst⁻¹}
 use Prim.Native.Nat.{ℕ, zero, suc, _+_, _-_, _*_, _/_, _%_, _≤_, _<_}
 use native.Mathlib.Nat.{le-refl, mul-assoc, mul-comm, mul-le-mul}
 use native.Mathlib.Omega.{arith}
@@ -10,11 +10,8 @@ use borrow.Author.Tests.{ltb-true, ltb-false, eqb-true, eqb-false}
 use lib.Dec.{ltb, eqb}
 use Rattle.division.specs.declared.Choice.{Choice}
 use Rattle.division.specs.declared.Choice.the-variants.{StraightRun, StraightSide, LongCut, UCut}
-use Rattle.division.specs.Division.{pick, Square, Block, whole, choice, even-half, Part, First, Second, A, B, C, part, parts, parts-of, moved, row, curve-by, down, curve, blocks}
-
-pub record Sized (k : Block) : Type 0 where
-  pub run : 1 ≤ k .a
-  pub side : 1 ≤ k .b
+use Rattle.division.specs.Division.{pick, Block, choice, even-half, First, Second, A, B, C, part, parts, parts-of, row, curve-by, down, curve, blocks}
+use Rattle.division.specs.Division.Inside.{Sized}
 
 -- P of each of a list
 abbrev pub All : {X : Type 0} → (X → Type 0) → List X → Type 0

@@ -4,7 +4,7 @@ use mathlib.Core.List.{List, [], _∷_}
 use Prim.Native.Nat.{ℕ}
 use lib.Dec.{T, eqb}
 use lib.ListN.{length}
-use Rattle.division.specs.Division.{Square, square, Block, whole, choice, even-half, part, parts, parts-of, moved, against, row, curve-by, down, curve, blocks, within, holds, count, blocks-holding, same, place-in, square-of, number-of}
+use Rattle.division.specs.Division.{Square, square, whole, choice, even-half, part, parts, parts-of, moved, against, row, curve-by, down, curve, blocks, within, holds, count, blocks-holding, same, place-in, square-of, number-of}
 
 -- A line of the table, of a w by h area.
 pub data Case : Type 0 where
