@@ -12,19 +12,19 @@ use lib.Dec.{lit<, lit≤}
 use lib.ListN.{length}
 use Rattle.division.specs.Division.{Square, Block, whole, parts, blocks, holds, one, count, blocks-holding}
 use Rattle.division.specs.Division.Inside.{Sized, x-y, Inside}
-use Rattle.division.specs.Division.Rules.{All, All-map, All-use, Smaller, smaller, induction, blocks-rule, Cut, long, u, Shape, in-run, in-side, cut, shape}
+use Rattle.division.specs.Division.Rules.{All, All-map, All-use, Smaller, smaller, induction, blocks-rule, Cut, in-two, in-three, Shape, in-run, in-side, cut, shape}
 use Rattle.division.proofs.Plane.{one-le}
 use Rattle.division.proofs.Sums.{total, count-joined, length-joined, all-joined, none-of, one-of}
 use Rattle.division.proofs.Cuts.{area, areas, inside-parts, holds-parts}
 
 -- a cut block has at least 4 squares and two parts
 four : (k : Block) → Cut k → 4 ≤ area k
-four k (long a b e) = mul-le-mul a b
-four k (u a b e) = mul-le-mul a b
+four k (in-two a b e) = mul-le-mul a b
+four k (in-three a b e) = mul-le-mul a b
 
 two-parts : (k : Block) → Cut k → 2 ≤ length (parts k)
-two-parts k (long a b e) = rw e (omega arith)
-two-parts k (u a b e) = rw e (omega arith)
+two-parts k (in-two a b e) = rw e (omega arith)
+two-parts k (in-three a b e) = rw e (omega arith)
 
 blocks-length : (k : Block) → Sized k → length (blocks k) ≡ 1 + total (λ q. length (blocks q)) (parts k)
 blocks-length k h = ap length (blocks-rule k h) ∙ ap suc (length-joined blocks (parts k)) ∙ sym (one-add (total (λ q. length (blocks q)) (parts k)))
@@ -85,6 +85,7 @@ up-one n S K l four less h = ⊎-elim one-block more (eq-or-lt-of-le l)
   where
     one-block : 1 ≡ n → 3 ^ suc n ≤ 2 ^ suc n * K
     one-block e = rw (← e) (omega arith)
+
     more : 1 < n → 3 ^ suc n ≤ 2 ^ suc n * K
     more m =
         let a : 3 ^ suc n ≡ 3 ^ n * 3 = pow-suc 3 n in
@@ -105,28 +106,37 @@ cut-bounded w h p k i t all = ⊎-elim outside held (one-of Known marked deep (p
   where
     Known : Block → Type 0
     Known q = Bounded p q × Smaller k q
+
     marked : Block → ℕ
     marked q = one (holds q p)
+
     deep : Block → ℕ
     deep q = blocks-holding q p
+
     known : All Known (parts k)
     known = All-use (Smaller k) Known (parts k) (All-map (λ q b s. (b, s)) (parts k) all) (smaller k (i .sized))
+
     all-none : All (λ q. marked q ≡ 0 → deep q ≡ 0) (parts k)
     all-none = All-map (λ q b. b .none) (parts k) all
+
     sum : total marked (parts k) ≡ one (holds k p)
     sum = holds-parts w h k i t p
+
     one-at-most : total marked (parts k) ≤ 1
     one-at-most = let l = one-le (holds k p) in omega (arith, sum)
+
     n : blocks-holding k p ≡ one (holds k p) + total deep (parts k)
     n = holding-rule k p (i .sized)
+
     outside : total marked (parts k) ≡ 0 → Bounded p k
     outside z =
         let zero-sum : total deep (parts k) ≡ 0 = none-of marked deep (parts k) all-none z in
         record {
           none = λ e. omega (arith, n);
           some = λ e. absurd (omega (arith, sum));
-          bound = λ l. absurd (omega (arith, n, sum))
+          bound = λ l. absurd (omega (arith, n, sum));
         }
+
     held : ((q : Block) × Known q × (marked q ≡ 1) × (total marked (parts k) ≡ 1) × (total deep (parts k) ≡ deep q)) → Bounded p k
     held f =
         let more : blocks-holding k p ≡ suc (deep (f .0)) = let d = f .4 in let a = f .3 in omega (arith, n, sum) in
@@ -134,7 +144,7 @@ cut-bounded w h p k i t all = ⊎-elim outside held (one-of Known marked deep (p
           none = λ e. absurd (let a = f .3 in omega (arith, sum));
           some = λ e. omega arith;
           bound = λ l. subst⁻¹ (λ (z : ℕ). 3 ^ z ≤ 2 ^ z * area k) more
-            (up-one (deep (f .0)) (area (f .0)) (area k) (f .1 .0 .some (f .2)) (four k t) (f .1 .1 .two-thirds) (f .1 .0 .bound))
+              (up-one (deep (f .0)) (area (f .0)) (area k) (f .1 .0 .some (f .2)) (four k t) (f .1 .1 .two-thirds) (f .1 .0 .bound));
         }
 
 bounded-by : (w h : ℕ) (p : Square) (k : Block) → All (λ q. Inside w h q → Bounded p q) (parts k) → Inside w h k → Shape k → Bounded p k
@@ -161,6 +171,7 @@ held-by-at-most S m base k p b l s = by (decLe (blocks-holding k p) m)
   where
     n : ℕ
     n = blocks-holding k p
+
     by : Dec (n ≤ m) → n ≤ m
     by (yes y) = y
     by (no x) =

@@ -5,7 +5,7 @@ use native.Mathlib.Nat.{add-zero, mul-add, add-mul, mul-comm}
 use native.Mathlib.Omega.{arith}
 use Rattle.division.specs.Division.{Square, Block, even-half, First, Second, A, B, C, part, parts, moved, within, holds, one}
 use Rattle.division.specs.Division.Inside.{Inside}
-use Rattle.division.specs.Division.Rules.{All, halves, Cut, long, u}
+use Rattle.division.specs.Division.Rules.{All, halves, Cut, in-two, in-three}
 use Rattle.division.proofs.Plane.{turned, reversed, moved-add, moved-swap, room-on, room-back, room-across, room-first, one-and, one-le, min-split, within-cut, within-back, within-across}
 use Rattle.division.proofs.Sums.{total}
 
@@ -27,8 +27,8 @@ u-areas e m a b l r =
 
 pub areas : (k : Block) → Cut k → total area (parts k) ≡ area k
 unfolding part
-areas k (long a b e) = rw e (long-areas (even-half (k .a)) (k .a) (k .b) (let half = halves (k .a) a in omega arith))
-areas k (u a b e) = rw e (u-areas (even-half (k .b)) (k .a / 2) (k .a) (k .b) (let half = halves (k .b) b in omega arith) (omega arith))
+areas k (in-two a b e) = rw e (long-areas (even-half (k .a)) (k .a) (k .b) (let half = halves (k .a) a in omega arith))
+areas k (in-three a b e) = rw e (u-areas (even-half (k .b)) (k .a / 2) (k .a) (k .b) (let half = halves (k .b) b in omega arith) (omega arith))
 
 -- the parts' squares add up, as 0 or 1 along the run and along the side
 u-sum : (r r₁ r₂ s s₁ s₂ : ℕ) → r ≡ r₁ + r₂ → s ≡ s₁ + s₂ → r ≤ 1 → s ≤ 1 → min s₁ r₁ + (min r s₂ + (min s₁ r₂ + 0)) ≡ min r s
@@ -45,7 +45,7 @@ module _ (w h : ℕ) (k : Block) (i : Inside w h k) where
         sized = omega arith;
         paired = i .paired;
         run = room-first w h (k .run) (even-half (k .a)) (k .a) (k .start) (i .run) (omega arith);
-        side = i .side
+        side = i .side;
       }
 
   second-inside : 2 ≤ k .a → Inside w h (part Second k)
@@ -57,7 +57,7 @@ module _ (w h : ℕ) (k : Block) (i : Inside w h k) where
         sized = omega arith;
         paired = i .paired;
         run = room-on w h (k .run) (even-half (k .a)) (k .a - even-half (k .a)) (k .a) (k .start) (i .run) (omega arith);
-        side = room-across w h (turned (i .paired)) (even-half (k .a)) (k .b) (k .start) (i .side)
+        side = room-across w h (turned (i .paired)) (even-half (k .a)) (k .b) (k .start) (i .side);
       }
 
   a-inside : 2 ≤ k .a → 2 ≤ k .b → Inside w h (part A k)
@@ -68,7 +68,7 @@ module _ (w h : ℕ) (k : Block) (i : Inside w h k) where
         sized = omega arith;
         paired = turned (i .paired);
         run = room-first w h (k .side) (even-half (k .b)) (k .b) (k .start) (i .side) (omega arith);
-        side = room-first w h (k .run) (k .a / 2) (k .a) (k .start) (i .run) (omega arith)
+        side = room-first w h (k .run) (k .a / 2) (k .a) (k .start) (i .run) (omega arith);
       }
 
   b-inside : 2 ≤ k .b → Inside w h (part B k)
@@ -80,7 +80,7 @@ module _ (w h : ℕ) (k : Block) (i : Inside w h k) where
         sized = omega arith;
         paired = i .paired;
         run = room-across w h (i .paired) (even-half (k .b)) (k .a) (k .start) (i .run);
-        side = room-on w h (k .side) (even-half (k .b)) (k .b - even-half (k .b)) (k .b) (k .start) (i .side) (omega arith)
+        side = room-on w h (k .side) (even-half (k .b)) (k .b - even-half (k .b)) (k .b) (k .start) (i .side) (omega arith);
       }
 
   c-inside : 2 ≤ k .a → 2 ≤ k .b → Inside w h (part C k)
@@ -93,7 +93,7 @@ module _ (w h : ℕ) (k : Block) (i : Inside w h k) where
         sized = omega arith;
         paired = reversed (turned (i .paired));
         run = room-back w h (k .side) e e last (room-across w h (turned (i .paired)) (k .a - 1) e (k .start) (room-first w h (k .side) e (k .b) (k .start) (i .side) (omega arith))) (omega arith) (omega arith);
-        side = rw (moved-swap (turned (i .paired)) (e - 1) (k .a - 1) (k .start)) (room-back w h (k .run) (k .a - k .a / 2) (k .a) (moved (k .side) (e - 1) (k .start)) (room-across w h (i .paired) (e - 1) (k .a) (k .start) (i .run)) (omega arith) (omega arith))
+        side = rw (moved-swap (turned (i .paired)) (e - 1) (k .a - 1) (k .start)) (room-back w h (k .run) (k .a - k .a / 2) (k .a) (moved (k .side) (e - 1) (k .start)) (room-across w h (i .paired) (e - 1) (k .a) (k .start) (i .run)) (omega arith) (omega arith));
       }
 
   -- the run and the side of part C, each walked from its other end
@@ -114,8 +114,8 @@ module _ (w h : ℕ) (k : Block) (i : Inside w h k) where
       let n = k .a - m in
       let on = moved (k .run) m (k .start) in
       let there : moved (k .side) (e - 1) (moved (k .run) (k .a - 1) (k .start)) ≡ moved (k .run) (n - 1) (moved (k .side) (e - 1) on) =
-        ap (moved (k .side) (e - 1)) (ap (λ z. moved (k .run) z (k .start)) (omega arith) ∙ sym (moved-add (k .run) m (n - 1) (k .start)))
-        ∙ moved-swap (turned (i .paired)) (e - 1) (n - 1) on in
+      ap (moved (k .side) (e - 1)) (ap (λ z. moved (k .run) z (k .start)) (omega arith) ∙ sym (moved-add (k .run) m (n - 1) (k .start)))
+      ∙ moved-swap (turned (i .paired)) (e - 1) (n - 1) on in
       rw there
       (within-back w h (k .run) n (moved (k .side) (e - 1) on) p (room-across w h (i .paired) (e - 1) n on (room-on w h (k .run) m n (k .a) (k .start) (i .run) (omega arith))) (omega arith)
       ∙ ap one (within-across (i .paired) (e - 1) n on p))
@@ -141,9 +141,9 @@ module _ (w h : ℕ) (k : Block) (i : Inside w h k) where
       (u-sum _ _ _ _ _ _ (within-cut w h (k .run) m (k .a) (k .start) p (i .run) (omega arith)) (within-cut w h (k .side) e (k .b) (k .start) p (i .side) (half .less)) (one-le (within (k .run) (k .a) (k .start) p)) (one-le (within (k .side) (k .b) (k .start) p)))
 
 pub inside-parts : (w h : ℕ) (k : Block) → Inside w h k → Cut k → All (Inside w h) (parts k)
-inside-parts w h k i (long a b e) = subst⁻¹ (All (Inside w h)) e (first-inside w h k i a, (second-inside w h k i a, tt))
-inside-parts w h k i (u a b e) = subst⁻¹ (All (Inside w h)) e (a-inside w h k i a b, (b-inside w h k i b, (c-inside w h k i a b, tt)))
+inside-parts w h k i (in-two a b e) = subst⁻¹ (All (Inside w h)) e (first-inside w h k i a, (second-inside w h k i a, tt))
+inside-parts w h k i (in-three a b e) = subst⁻¹ (All (Inside w h)) e (a-inside w h k i a b, (b-inside w h k i b, (c-inside w h k i a b, tt)))
 
 pub holds-parts : (w h : ℕ) (k : Block) → Inside w h k → Cut k → (p : Square) → total (λ q. one (holds q p)) (parts k) ≡ one (holds k p)
-holds-parts w h k i (long a b e) p = rw e (long-holds w h k i p a)
-holds-parts w h k i (u a b e) p = rw e (u-holds w h k i p a b)
+holds-parts w h k i (in-two a b e) p = rw e (long-holds w h k i p a)
+holds-parts w h k i (in-three a b e) p = rw e (u-holds w h k i p a b)

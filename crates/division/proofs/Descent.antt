@@ -74,7 +74,7 @@ module _ (w h : ℕ) (k : Block) (i : Inside w h k) (before : List Block) (q : B
     alone =
         let here : holding p q ≡ 1 = ap one held in
         let sum : total (holding p) before + (holding p q + total (holding p) after) ≡ one (holds k p) =
-          sym (total-append (holding p) before (q ∷ after)) ∙ ap (total (holding p)) (sym e) ∙ holds-parts w h k i the-cut p in
+        sym (total-append (holding p) before (q ∷ after)) ∙ ap (total (holding p)) (sym e) ∙ holds-parts w h k i the-cut p in
         let most = one-le (holds k p) in
         (omega arith, omega arith, omega arith)
 
@@ -87,10 +87,10 @@ module _ (w h : ℕ) (k : Block) (i : Inside w h k) (before : List Block) (q : B
         let start = flatten (map curve before) in
         let rest = flatten (map curve after) in
         let not-before : count (same p) start ≡ 0 =
-          count-joined (same p) curve before
-          ∙ total-all (λ j. count (same p) (curve j)) (holding p) before
-          (All-map (λ j s. once w h j s p) before (all-left (Inside w h) before (q ∷ after) all-inside))
-          ∙ alone .0 in
+        count-joined (same p) curve before
+        ∙ total-all (λ j. count (same p) (curve j)) (holding p) before
+        (All-map (λ j s. once w h j s p) before (all-left (Inside w h) before (q ∷ after) all-inside))
+        ∙ alone .0 in
         let here : count (same p) (curve q) ≡ 1 = once w h q part-inside p ∙ ap one held in
         ap (λ zs. place-in zs p) (joined (shape k (i .sized)))
         ∙ place-right p start (curve q ++ rest) not-before
@@ -100,7 +100,7 @@ module _ (w h : ℕ) (k : Block) (i : Inside w h k) (before : List Block) (q : B
     holding-in =
         let deep : Block → ℕ = λ j. blocks-holding j p in
         let none : (qs : List Block) → All (Inside w h) qs → total (holding p) qs ≡ 0 → total deep qs ≡ 0 =
-          λ qs all z. none-of (holding p) deep qs (All-map (λ j s. bounded w h j s p .none) qs all) z in
+        λ qs all z. none-of (holding p) deep qs (All-map (λ j s. bounded w h j s p .none) qs all) z in
         let first = none before (all-left (Inside w h) before (q ∷ after) all-inside) (alone .0) in
         let last = none after (all-right (Inside w h) before (q ∷ after) all-inside .1) (alone .1) in
         let sum : total deep (parts k) ≡ total deep before + (deep q + total deep after) = ap (total deep) e ∙ total-append deep before (q ∷ after) in

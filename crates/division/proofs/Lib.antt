@@ -6,3 +6,4 @@ pub mod Places
 pub mod Blocks
 pub mod Descent
 pub mod Local
+pub mod Walks

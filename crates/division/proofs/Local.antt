@@ -14,7 +14,7 @@ use lib.Seq.{ext-getD}
 use Rattle.division.specs.declared.Choice.the-variants.{StraightRun, StraightSide, LongCut, UCut}
 use Rattle.division.specs.Division.{Square, square, Block, whole, choice, even-half, Part, First, Second, A, B, C, part, parts, parts-of, moved, against, within, holds, curve, blocks-holding, square-of, number-of}
 use Rattle.division.specs.Division.Inside.{Sized, Inside}
-use Rattle.division.specs.Division.Rules.{All, halves, induction, Chosen, runs, sides, long, u, chosen, parts-are, rule}
+use Rattle.division.specs.Division.Rules.{All, halves, induction, Chosen, is-run, is-side, is-long, is-u, chosen, parts-are, rule}
 use Rattle.division.proofs.Plane.{turned, moved-add, moved-swap, moved-back, moved-none, room-across, room-first, within-moved, within-aside}
 use Rattle.division.proofs.Sums.{total, all-right}
 use Rattle.division.proofs.Cuts.{area}
@@ -51,12 +51,12 @@ module _ (w h : ℕ) (k : Block) (i : Inside w h k) where
   unfolding spot holds
   spot-held s l =
       let along : within (k .run) (k .a) (k .start) (moved (k .side) (s .y) (moved (k .run) (s .x) (k .start))) ≡ true =
-        within-aside (i .paired) (s .y) (k .a) (k .start) (moved (k .run) (s .x) (k .start))
-        ∙ within-moved w h (k .run) (k .a) (s .x) (k .start) (i .run) (l .run) in
+      within-aside (i .paired) (s .y) (k .a) (k .start) (moved (k .run) (s .x) (k .start))
+      ∙ within-moved w h (k .run) (k .a) (s .x) (k .start) (i .run) (l .run) in
       let across : within (k .side) (k .b) (k .start) (moved (k .side) (s .y) (moved (k .run) (s .x) (k .start))) ≡ true =
-        ap (within (k .side) (k .b) (k .start)) (moved-swap (turned (i .paired)) (s .y) (s .x) (k .start))
-        ∙ within-aside (turned (i .paired)) (s .x) (k .b) (k .start) (moved (k .side) (s .y) (k .start))
-        ∙ within-moved w h (k .side) (k .b) (s .y) (k .start) (i .side) (l .side) in
+      ap (within (k .side) (k .b) (k .start)) (moved-swap (turned (i .paired)) (s .y) (s .x) (k .start))
+      ∙ within-aside (turned (i .paired)) (s .x) (k .b) (k .start) (moved (k .side) (s .y) (k .start))
+      ∙ within-moved w h (k .side) (k .b) (s .y) (k .start) (i .side) (l .side) in
       rw (along, across)
 
   -- a part's (u, v) is the block's `inner` of it
@@ -105,7 +105,7 @@ module _ (a b : ℕ) (s : Square) where
         are = ap parts-of c;
         there = square (s .x - even-half a) (s .y);
         within = record { run = omega arith; side = m };
-        back = λ i. square (add-sub-of-le l i) (s .y)
+        back = λ i. square (add-sub-of-le l i) (s .y);
       }
 
   abbrev pub in-a : choice a b ≡ UCut → s .x < a / 2 → s .y < even-half b → Lies a b s
@@ -123,7 +123,7 @@ module _ (a b : ℕ) (s : Square) where
         are = ap parts-of c;
         there = square (s .x) (s .y - even-half b);
         within = record { run = l; side = omega arith };
-        back = λ i. square (s .x) (add-sub-of-le m i)
+        back = λ i. square (s .x) (add-sub-of-le m i);
       }
 
   abbrev pub in-c : choice a b ≡ UCut → a / 2 ≤ s .x → s .x < a → s .y < even-half b → Lies a b s
@@ -136,7 +136,7 @@ module _ (a b : ℕ) (s : Square) where
         are = ap parts-of c;
         there = square (even-half b - 1 - s .y) (a - 1 - s .x);
         within = record { run = omega arith; side = omega arith };
-        back = ap₂ square (omega arith) (omega arith)
+        back = ap₂ square (omega arith) (omega arith);
       }
 
 -- a block with another's lengths
@@ -182,12 +182,12 @@ module _ (w h : ℕ) (k : Block) (i : Inside w h k) (s : Square) (l : Within (k 
       let c = rule k StraightRun (i .sized) e .0 in
       let z : s .y ≡ 0 = let across = l .side in omega arith in
       let there : spot k s ≡ square-of k (s .x) =
-        ap (λ n. moved (k .side) n (moved (k .run) (s .x) (k .start))) z
-        ∙ moved-none (k .side) (moved (k .run) (s .x) (k .start))
-        ∙ sym (run-square k c (s .x) (l .run)) in
+      ap (λ n. moved (k .side) n (moved (k .run) (s .x) (k .start))) z
+      ∙ moved-none (k .side) (moved (k .run) (s .x) (k .start))
+      ∙ sym (run-square k c (s .x) (l .run)) in
       record {
         number-is = ap (number-of k) there ∙ number-of-square w h k i (s .x) (rw (b, mul-one) (l .run));
-        holding-is = straight-holding k (spot k s) (i .sized) (parts-are k StraightRun e) (spot-held w h k i s l)
+        holding-is = straight-holding k (spot k s) (i .sized) (parts-are k StraightRun e) (spot-held w h k i s l);
       }
 
   side-answer : choice (k .a) (k .b) ≡ StraightSide → k .a ≡ 1 → Answer k s (s .y) 1
@@ -196,12 +196,12 @@ module _ (w h : ℕ) (k : Block) (i : Inside w h k) (s : Square) (l : Within (k 
       let c = rule k StraightSide (i .sized) e .0 in
       let z : s .x ≡ 0 = let along = l .run in omega arith in
       let there : spot k s ≡ square-of k (s .y) =
-        ap (λ n. moved (k .side) (s .y) (moved (k .run) n (k .start))) z
-        ∙ ap (moved (k .side) (s .y)) (moved-none (k .run) (k .start))
-        ∙ sym (side-square k c (s .y) (l .side)) in
+      ap (λ n. moved (k .side) (s .y) (moved (k .run) n (k .start))) z
+      ∙ ap (moved (k .side) (s .y)) (moved-none (k .run) (k .start))
+      ∙ sym (side-square k c (s .y) (l .side)) in
       record {
         number-is = ap (number-of k) there ∙ number-of-square w h k i (s .y) (rw (a, one-mul) (l .side));
-        holding-is = straight-holding k (spot k s) (i .sized) (parts-are k StraightSide e) (spot-held w h k i s l)
+        holding-is = straight-holding k (spot k s) (i .sized) (parts-are k StraightSide e) (spot-held w h k i s l);
       }
 
 lies-parts : (j : Block) (s : Square) (lies : Lies (j .a) (j .b) s)
@@ -228,7 +228,7 @@ module _ (w h : ℕ) (j : Block) (i : Inside w h j) (two : 2 ≤ j .b) (s : Squa
       let held = spot-held w h q lies-inside (lies .there) l in
       record {
         number-is = ap (number-of j) there ∙ number-in w h j i before q after (lies-parts j s lies) (spot q (lies .there)) held ∙ ap₂ _+_ (squares-in j (lies .before)) (answer .number-is);
-        holding-is = ap (blocks-holding j) there ∙ holding-in w h j i before q after (lies-parts j s lies) (spot q (lies .there)) held ∙ ap suc (answer .holding-is)
+        holding-is = ap (blocks-holding j) there ∙ holding-in w h j i before q after (lies-parts j s lies) (spot q (lies .there)) held ∙ ap suc (answer .holding-is);
       }
 
 -- every (u, v) of a cut block lies in a part
@@ -257,18 +257,21 @@ everywhere-cut : (k : Block) → All Everywhere (parts k) → 2 ≤ k .b → (s 
 everywhere-cut k all two s lies =
     let p = lies .name in
     let part-all : Everywhere (part p k) =
-      all-right Everywhere (map (λ p. part p k) (lies .before)) (part p k ∷ map (λ p. part p k) (lies .after)) (subst (All Everywhere) (lies-parts k s lies) all) .0 in
-    let answers = part-all (lies .there) (lies-within k s lies) in
-    (squares-of (k .a) (k .b) (lies .before) + answers .0, suc (answers .1), λ w h j i.
-      cut-answer w h (resized j k) i two s lies (answers .0) (answers .1)
-      (subst⁻¹ (λ (q : Block). Answer q (lies .there) (answers .0) (answers .1)) (part-resized j k p)
-      (answers .2 w h (part p (resized j k)) (subst (Inside w h) (part-resized j k p) (lies-inside w h (resized j k) i two s lies)))))
+    all-right Everywhere (map (λ p. part p k) (lies .before)) (part p k ∷ map (λ p. part p k) (lies .after)) (subst (All Everywhere) (lies-parts k s lies) all) .0 in
+    let answers = part-all (lies .there) (lies-within k s lies) in (
+      squares-of (k .a) (k .b) (lies .before) + answers .0,
+      suc (answers .1),
+      λ w h j i.
+          cut-answer w h (resized j k) i two s lies (answers .0) (answers .1)
+          (subst⁻¹ (λ (q : Block). Answer q (lies .there) (answers .0) (answers .1)) (part-resized j k p)
+          (answers .2 w h (part p (resized j k)) (subst (Inside w h) (part-resized j k p) (lies-inside w h (resized j k) i two s lies)))),
+    )
 
 everywhere-by : (k : Block) → Sized k → All Everywhere (parts k) → Chosen (k .a) (k .b) → Everywhere k
-everywhere-by k z all (runs e b) s l = (s .x, 1, λ w h j i. run-answer w h (resized j k) i s l e b)
-everywhere-by k z all (sides e a b) s l = (s .y, 1, λ w h j i. side-answer w h (resized j k) i s l e a)
-everywhere-by k z all (long e a b t) s l = everywhere-cut k all b s (lies-long (k .a) (k .b) s l e)
-everywhere-by k z all (u e a b t) s l = everywhere-cut k all b s (lies-u (k .a) (k .b) s l e)
+everywhere-by k z all (is-run e b) s l = (s .x, 1, λ w h j i. run-answer w h (resized j k) i s l e b)
+everywhere-by k z all (is-side e a b) s l = (s .y, 1, λ w h j i. side-answer w h (resized j k) i s l e a)
+everywhere-by k z all (is-long e a b t) s l = everywhere-cut k all b s (lies-long (k .a) (k .b) s l e)
+everywhere-by k z all (is-u e a b t) s l = everywhere-cut k all b s (lies-u (k .a) (k .b) s l e)
 
 everywhere : (k : Block) → Sized k → Everywhere k
 everywhere = induction Everywhere (λ k z all. everywhere-by k z all (chosen k z))
@@ -284,7 +287,7 @@ alike w h k i s l =
     let is : spot (whole (k .a) (k .b)) s ≡ s = spot-whole (k .a) (k .b) s in
     record {
       number-is = here .number-is ∙ sym (there .number-is) ∙ ap (number-of (whole (k .a) (k .b))) is;
-      holding-is = here .holding-is ∙ sym (there .holding-is) ∙ ap (blocks-holding (whole (k .a) (k .b))) is
+      holding-is = here .holding-is ∙ sym (there .holding-is) ∙ ap (blocks-holding (whole (k .a) (k .b))) is;
     }
 
 -- an area holds the squares within its lengths
@@ -326,8 +329,8 @@ curve-alike w h k i =
     let k-length = length-curve k (i .sized) in
     ext-getD (square 0 0) (curve k) (map (spot k) (curve all)) (k-length ∙ sym (length-map (curve all) (spot k) ∙ all-length))
     (λ n l. let below : n < area k = subst (λ (m : ℕ). n < m) k-length l in
-      square-alike w h k i n below
-      ∙ sym (getD-map-in (spot k) (curve all) n (square 0 0) (square 0 0) (subst⁻¹ (λ (m : ℕ). n < m) all-length below)))
+    square-alike w h k i n below
+    ∙ sym (getD-map-in (spot k) (curve all) n (square 0 0) (square 0 0) (subst⁻¹ (λ (m : ℕ). n < m) all-length below)))
 
 -- what an area answers at (u, v), by its case: the steps of a search that needs no start and no direction
 module _ (a b : ℕ) (pa : 1 ≤ a) (pb : 1 ≤ b) (s : Square) where

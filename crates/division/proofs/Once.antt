@@ -37,8 +37,8 @@ unfolding row count
 row-once w h {d} {t} q zero s p r = let none = within-none w h d s p r in omega arith
 row-once w h {d} {t} q (suc n) s p r =
     let split : one (within d (suc n) s p) ≡ one (within d 1 s p) + one (within d n (moved d 1 s) p) =
-      subst (λ (z : ℕ). one (within d z s p) ≡ one (within d 1 s p) + one (within d n (moved d 1 s) p)) (one-add n)
-      (within-split w h d 1 n s p (subst⁻¹ (λ (z : ℕ). Room w h d z s) (one-add n) r)) in
+    subst (λ (z : ℕ). one (within d z s p) ≡ one (within d 1 s p) + one (within d n (moved d 1 s) p)) (one-add n)
+    (within-split w h d 1 n s p (subst⁻¹ (λ (z : ℕ). Room w h d z s) (one-add n) r)) in
     ap₂ _+_ (same-within q s p)
     (row-once w h q n (moved d 1 s) p (room-on w h d 1 n (suc n) s r (omega arith))
     ∙ ap (λ (b : Bool). min (one (within d n (moved d 1 s) p)) (one b)) (within-across (turned q) 1 1 s p))

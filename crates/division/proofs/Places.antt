@@ -15,7 +15,7 @@ unfolding same
 same-true p q e =
     λ i. record {
       x = eqb-true (p .x) (q .x) (and-eq-true-iff (eqb (p .x) (q .x)) (eqb (p .y) (q .y)) .0 e .0) i;
-      y = eqb-true (p .y) (q .y) (and-eq-true-iff (eqb (p .x) (q .x)) (eqb (p .y) (q .y)) .0 e .1) i
+      y = eqb-true (p .y) (q .y) (and-eq-true-iff (eqb (p .x) (q .x)) (eqb (p .y) (q .y)) .0 e .1) i;
     }
 
 pub same-self : (p : Square) → same p p ≡ true

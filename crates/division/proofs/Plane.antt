@@ -158,6 +158,7 @@ within-span w h +x n s p r = up-span (s .x) n (p .x)
 within-span w h +y n s p r = up-span (s .y) n (p .y)
 within-span w h -x n s p r = down-span (s .x) n (p .x) (r .0)
 within-span w h -y n s p r = down-span (s .y) n (p .y) (r .0)
+
 -- a stretch of m + n squares up from lo, and one down from hi, as two
 up-split : (lo m n c : ℕ) → span lo (lo + (m + n)) c ≡ span lo (lo + m) c + span (lo + m) (lo + m + n) c
 up-split lo m n c = rw (add-assoc lo m n) (span-join lo (lo + m) (lo + (m + n)) c (omega arith) (omega arith))
@@ -168,8 +169,10 @@ down-split hi m n c l = ⊎-elim none some (eq-zero-or-pos n)
   where
     Goal : Type 0
     Goal = span (suc hi - (m + n)) (suc hi) c ≡ span (suc hi - m) (suc hi) c + span (suc (hi - m) - n) (suc (hi - m)) c
+
     none : n ≡ 0 → Goal
     none e = rw (e, add-zero, sub-zero, span-empty (suc (hi - m)) c, add-zero)
+
     some : 0 < n → Goal
     some p =
         let e : suc (hi - m) ≡ suc hi - m = omega arith in

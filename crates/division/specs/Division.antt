@@ -52,7 +52,7 @@ pub record Block : Type 0 where
 unfoldable pub whole : ℕ → ℕ → Block
 whole w h = record { start = square 0 0; run = +x; a = w; side = +y; b = h }
 
--- "The choice rule, in this order": b = 1: straight. a = 1: straight. 2a > 3b: the long cut. Otherwise: the U cut.
+-- "The choice rule, in this order: 1. b = 1: straight. 2. a = 1: straight. 3. 2a > 3b: the long cut. 4. Otherwise: the U cut."
 unfoldable pub choice : ℕ → ℕ → Choice
 choice a b = pick (eqb b 1) StraightRun (pick (eqb a 1) StraightSide (pick (ltb (3 * b) (2 * a)) LongCut UCut))
 
@@ -60,7 +60,7 @@ choice a b = pick (eqb b 1) StraightRun (pick (eqb a 1) StraightSide (pick (ltb 
 unfoldable pub even-half : ℕ → ℕ
 even-half L = pick (ltb 2 L && eqb (L / 2 % 2) 1) (L / 2 + 1) (L / 2)
 
--- "Long cut, two parts in this order", first and second; "U cut, three parts in this order", A, B and C.
+-- "Long cut, two parts in this order. .. U cut, three parts in this order."
 pub data Part : Type 0 where
   First Second A B C : Part
 
@@ -70,24 +70,27 @@ parts-of StraightSide = []
 parts-of LongCut = First ∷ Second ∷ []
 parts-of UCut = A ∷ B ∷ C ∷ []
 
--- "First: same start, same directions, run = even half of a, side b. Second: start moved on by the even half of a, run = the rest of a, side b."
--- "Let e = the even half of b, and m = a div 2. A: same start, runs in the block's side direction for e, its side is the block's run direction
--- for m. B: start moved e in the side direction, same directions, run a, side b - e. C: start moved a - 1 in the run direction and e - 1 in the
--- side direction; it runs against the side direction for e, its side is against the run direction for a - m."
+-- The parts of the U cut: "Let e = the even half of b, and m = a div 2 (never made even)."
 unfoldable pub part : Part → Block → Block
+-- "First: same start, same directions, run = even half of a, side b."
 part First k = record { start = k .start; run = k .run; a = even-half (k .a); side = k .side; b = k .b }
+-- "Second: start moved on by the even half of a, run = the rest of a, side b."
 part Second k =
     record { start = moved (k .run) (even-half (k .a)) (k .start); run = k .run; a = k .a - even-half (k .a); side = k .side; b = k .b }
+-- "A: same start, runs in the block's side direction for e, its side is the block's run direction for m."
 part A k = record { start = k .start; run = k .side; a = even-half (k .b); side = k .run; b = k .a / 2 }
+-- "B: start moved e in the side direction, same directions, run a, side b - e."
 part B k =
     record { start = moved (k .side) (even-half (k .b)) (k .start); run = k .run; a = k .a; side = k .side; b = k .b - even-half (k .b) }
+-- "C: start moved a - 1 in the run direction and e - 1 in the side direction; it runs against the side direction for e, its side is against
+-- the run direction for a - m."
 part C k =
     record {
       start = moved (k .side) (even-half (k .b) - 1) (moved (k .run) (k .a - 1) (k .start));
       run = against (k .side);
       a = even-half (k .b);
       side = against (k .run);
-      b = k .a - k .a / 2
+      b = k .a - k .a / 2;
     }
 
 unfoldable pub parts : Block → List Block
@@ -98,16 +101,18 @@ unfoldable pub row : Direction → ℕ → Square → List Square
 row d zero s = []
 row d (suc n) s = s ∷ row d n (moved d 1 s)
 
--- "Straight. The a squares follow in the run direction." "Straight. The b squares follow in the side direction." "The curve of a block is the
--- curves of its parts in order."
+-- The curve of a block by its case, where `curves` are those of its parts.
 unfoldable pub curve-by : Choice → Block → List (List Square) → List Square
+-- "b = 1: straight. The a squares follow in the run direction."
 curve-by StraightRun k curves = row (k .run) (k .a) (k .start)
+-- "a = 1: straight. The b squares follow in the side direction."
 curve-by StraightSide k curves = row (k .side) (k .b) (k .start)
+-- "The curve of a block is the curves of its parts in order."
 curve-by LongCut k curves = flatten curves
 curve-by UCut k curves = flatten curves
 
--- What `of` makes of a block, given what it makes of the block's parts in order, n cuts deep at most. The lengths' sum falls with each cut, so
--- a + b cuts are deep enough: `Rules` says what follows without n.
+-- What `of` makes of a block from what it makes of the block's parts in order, n cuts deep at most. With each cut the sum of the lengths falls,
+-- so that a + b cuts are deep enough; the rules without n are in Division/Rules.antt.
 down : {R : Type 0} → (Block → List R → R) → ℕ → Block → R
 down of zero k = of k []
 down of (suc n) k = of k (map (down of n) (parts k))
@@ -119,8 +124,8 @@ curve k = down (λ j curves. curve-by (choice (j .a) (j .b)) j curves) (k .a + k
 pub blocks : Block → List Block
 blocks k = down (λ j below. j ∷ flatten below) (k .a + k .b) k
 
--- A square lies within n squares from s in direction d, s counted, as far as that direction's coordinate goes. A block holds the squares that
--- lie within its run and within its side.
+-- A square lies within n squares from s in direction d, s counted, as far as that direction's coordinate goes. A block holds what lies within its
+-- run and within its side.
 unfoldable pub within : Direction → ℕ → Square → Square → Bool
 within +x n s p = leb (s .x) (p .x) && ltb (p .x) (s .x + n)
 within +y n s p = leb (s .y) (p .y) && ltb (p .y) (s .y + n)
@@ -130,7 +135,7 @@ within -y n s p = leb (p .y) (s .y) && ltb (s .y) (p .y + n)
 unfoldable pub holds : Block → Square → Bool
 holds k p = within (k .run) (k .a) (k .start) p && within (k .side) (k .b) (k .start) p
 
--- How many of a list pass a test, and how many blocks of a block's division hold a square.
+-- How many of a list pass a test; so, how many blocks of the division hold a square.
 abbrev pub one : Bool → ℕ
 one true = 1
 one false = 0
@@ -142,7 +147,7 @@ count f (z ∷ zs) = one (f z) + count f zs
 unfoldable pub blocks-holding : Block → Square → ℕ
 blocks-holding k p = count (λ j. holds j p) (blocks k)
 
--- Numbers are places in the curve, from 0: the square of a number, and the number of a square.
+-- "Numbers run from 0": a number is a place in the curve. The square of a number, and the number of a square.
 unfoldable pub same : Square → Square → Bool
 same p q = eqb (p .x) (q .x) && eqb (p .y) (q .y)
 

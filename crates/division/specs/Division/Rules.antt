@@ -1,8 +1,8 @@
 -- The rules of the division as laws, with no bound on how deep the cuts go: what the curve and the blocks of a block are, by its case, and
 -- the one induction over blocks that every further law uses. A sized block has both lengths at least 1.
-use mathlib.Core.Bool.{Bool, true, false, _&&_}
+use mathlib.Core.Bool.{Bool, true, false, _&&_, false≢true}
 use mathlib.Core.List.{List, [], _∷_, _++_, map, flatten, append-nil}
-use mathlib.Core.Path.{_≡_, refl, ap, ap₂, subst, subst⁻¹}
+use mathlib.Core.Path.{_≡_, refl, sym, _∙_, ap, ap₂, subst, subst⁻¹}
 use Prim.Native.Nat.{ℕ, zero, suc, _+_, _-_, _*_, _/_, _%_, _≤_, _<_}
 use native.Mathlib.Nat.{le-refl, mul-assoc, mul-comm, mul-le-mul}
 use native.Mathlib.Omega.{arith}
@@ -48,22 +48,44 @@ halves L h = halves-by L (ltb 2 L) (eqb (L / 2 % 2) 1) h refl refl
 
 -- the choice's case, with what the tests on the way to it say
 pub data Chosen (a b : ℕ) : Type 0 where
-  runs : choice a b ≡ StraightRun → b ≡ 1 → Chosen a b
-  sides : choice a b ≡ StraightSide → a ≡ 1 → 2 ≤ b → Chosen a b
-  long : choice a b ≡ LongCut → 2 ≤ a → 2 ≤ b → 3 * b < 2 * a → Chosen a b
-  u : choice a b ≡ UCut → 2 ≤ a → 2 ≤ b → 2 * a ≤ 3 * b → Chosen a b
+  is-run : choice a b ≡ StraightRun → b ≡ 1 → Chosen a b
+  is-side : choice a b ≡ StraightSide → a ≡ 1 → 2 ≤ b → Chosen a b
+  is-long : choice a b ≡ LongCut → 2 ≤ a → 2 ≤ b → 3 * b < 2 * a → Chosen a b
+  is-u : choice a b ≡ UCut → 2 ≤ a → 2 ≤ b → 2 * a ≤ 3 * b → Chosen a b
 
 chosen-by : (a b : ℕ) (r s l : Bool) → 1 ≤ a → 1 ≤ b → eqb b 1 ≡ r → eqb a 1 ≡ s → ltb (3 * b) (2 * a) ≡ l → Chosen a b
 unfolding choice
-chosen-by a b true s l ha hb p q o = runs (rw p) (eqb-true b 1 p)
-chosen-by a b false true l ha hb p q o = sides (rw (p, q)) (eqb-true a 1 q) (omega (arith, eqb-false b 1 p))
+chosen-by a b true s l ha hb p q o = is-run (rw p) (eqb-true b 1 p)
+chosen-by a b false true l ha hb p q o = is-side (rw (p, q)) (eqb-true a 1 q) (omega (arith, eqb-false b 1 p))
 chosen-by a b false false true ha hb p q o =
-    long (rw (p, q, o)) (omega (arith, eqb-false a 1 q)) (omega (arith, eqb-false b 1 p)) (ltb-true (3 * b) (2 * a) o)
+    is-long (rw (p, q, o)) (omega (arith, eqb-false a 1 q)) (omega (arith, eqb-false b 1 p)) (ltb-true (3 * b) (2 * a) o)
 chosen-by a b false false false ha hb p q o =
-    u (rw (p, q, o)) (omega (arith, eqb-false a 1 q)) (omega (arith, eqb-false b 1 p)) (ltb-false (3 * b) (2 * a) o)
+    is-u (rw (p, q, o)) (omega (arith, eqb-false a 1 q)) (omega (arith, eqb-false b 1 p)) (ltb-false (3 * b) (2 * a) o)
 
 pub chosen : (k : Block) → Sized k → Chosen (k .a) (k .b)
 chosen k h = chosen-by (k .a) (k .b) (eqb (k .b) 1) (eqb (k .a) 1) (ltb (3 * k .b) (2 * k .a)) (h .run) (h .side) refl refl refl
+
+-- a block that is cut has both lengths from 2 on
+is-cut : Choice → Bool
+is-cut StraightRun = false
+is-cut StraightSide = false
+is-cut LongCut = true
+is-cut UCut = true
+
+cut-by : (a b : ℕ) → Chosen a b → is-cut (choice a b) ≡ true → (2 ≤ a) × (2 ≤ b)
+unfolding is-cut
+cut-by a b (is-run e o) c = absurd (false≢true (sym (ap is-cut e) ∙ c))
+cut-by a b (is-side e o l) c = absurd (false≢true (sym (ap is-cut e) ∙ c))
+cut-by a b (is-long e la lb l) c = (la, lb)
+cut-by a b (is-u e la lb l) c = (la, lb)
+
+pub long-lengths : (k : Block) → Sized k → choice (k .a) (k .b) ≡ LongCut → (2 ≤ k .a) × (2 ≤ k .b)
+unfolding is-cut
+long-lengths k h e = cut-by (k .a) (k .b) (chosen k h) (ap is-cut e)
+
+pub u-lengths : (k : Block) → Sized k → choice (k .a) (k .b) ≡ UCut → (2 ≤ k .a) × (2 ≤ k .b)
+unfolding is-cut
+u-lengths k h e = cut-by (k .a) (k .b) (chosen k h) (ap is-cut e)
 
 -- the parts of a block by its case
 pub parts-are : (k : Block) (c : Choice) → choice (k .a) (k .b) ≡ c → parts k ≡ map (λ p. part p k) (parts-of c)
@@ -88,26 +110,34 @@ side-less x y X Y l h = rw (mul-comm x y, mul-comm X Y) (cut-less y x Y X h l)
 long-smaller : (k : Block) → 2 ≤ k .a → 1 ≤ k .b → All (Smaller k) (map (λ p. part p k) (parts-of LongCut))
 unfolding part parts-of
 long-smaller k a b =
-    let half = halves (k .a) a in
-    (record { sized = omega arith; falls = omega arith; two-thirds = cut-less (even-half (k .a)) (k .b) (k .a) (k .b) (half .high) (le-refl (k .b)) },
-    (record { sized = omega arith; falls = omega arith; two-thirds = cut-less (k .a - even-half (k .a)) (k .b) (k .a) (k .b) (omega arith) (le-refl (k .b)) },
-    tt))
+    let half = halves (k .a) a in (
+      record { sized = omega arith; falls = omega arith; two-thirds = cut-less (even-half (k .a)) (k .b) (k .a) (k .b) (half .high) (le-refl (k .b)) },
+      (
+        record { sized = omega arith; falls = omega arith; two-thirds = cut-less (k .a - even-half (k .a)) (k .b) (k .a) (k .b) (omega arith) (le-refl (k .b)) },
+        tt,
+      ),
+    )
 
 u-smaller : (k : Block) → 2 ≤ k .a → 2 ≤ k .b → All (Smaller k) (map (λ p. part p k) (parts-of UCut))
 unfolding part parts-of
 u-smaller k a b =
-    let half = halves (k .b) b in
-    (record { sized = omega arith; falls = omega arith; two-thirds = rw (mul-comm (k .a) (k .b)) (cut-less (even-half (k .b)) (k .a / 2) (k .b) (k .a) (half .high) (omega arith)) },
-    (record { sized = omega arith; falls = omega arith; two-thirds = side-less (k .a) (k .b - even-half (k .b)) (k .a) (k .b) (le-refl (k .a)) (omega arith) },
-    (record { sized = omega arith; falls = omega arith; two-thirds = rw (mul-comm (k .a) (k .b)) (cut-less (even-half (k .b)) (k .a - k .a / 2) (k .b) (k .a) (half .high) (omega arith)) },
-    tt)))
+    let half = halves (k .b) b in (
+      record { sized = omega arith; falls = omega arith; two-thirds = rw (mul-comm (k .a) (k .b)) (cut-less (even-half (k .b)) (k .a / 2) (k .b) (k .a) (half .high) (omega arith)) },
+      (
+        record { sized = omega arith; falls = omega arith; two-thirds = side-less (k .a) (k .b - even-half (k .b)) (k .a) (k .b) (le-refl (k .a)) (omega arith) },
+        (
+          record { sized = omega arith; falls = omega arith; two-thirds = rw (mul-comm (k .a) (k .b)) (cut-less (even-half (k .b)) (k .a - k .a / 2) (k .b) (k .a) (half .high) (omega arith)) },
+          tt,
+        ),
+      ),
+    )
 
 smaller-by : (k : Block) → Sized k → Chosen (k .a) (k .b) → All (Smaller k) (parts k)
 unfolding parts-of
-smaller-by k h (runs e b) = subst⁻¹ (All (Smaller k)) (parts-are k StraightRun e) tt
-smaller-by k h (sides e a b) = subst⁻¹ (All (Smaller k)) (parts-are k StraightSide e) tt
-smaller-by k h (long e a b l) = subst⁻¹ (All (Smaller k)) (parts-are k LongCut e) (long-smaller k a (h .side))
-smaller-by k h (u e a b l) = subst⁻¹ (All (Smaller k)) (parts-are k UCut e) (u-smaller k a b)
+smaller-by k h (is-run e b) = subst⁻¹ (All (Smaller k)) (parts-are k StraightRun e) tt
+smaller-by k h (is-side e a b) = subst⁻¹ (All (Smaller k)) (parts-are k StraightSide e) tt
+smaller-by k h (is-long e a b l) = subst⁻¹ (All (Smaller k)) (parts-are k LongCut e) (long-smaller k a (h .side))
+smaller-by k h (is-u e a b l) = subst⁻¹ (All (Smaller k)) (parts-are k UCut e) (u-smaller k a b)
 
 pub smaller : (k : Block) → Sized k → All (Smaller k) (parts k)
 smaller k h = smaller-by k h (chosen k h)
@@ -185,8 +215,8 @@ rule k c h e = subst (λ (c : Choice). Rule c k) e (four-rules k h)
 
 -- A block is straight one way or the other, or it is cut in two or in three.
 pub data Cut (k : Block) : Type 0 where
-  long : 2 ≤ k .a → 2 ≤ k .b → parts k ≡ part First k ∷ part Second k ∷ [] → Cut k
-  u : 2 ≤ k .a → 2 ≤ k .b → parts k ≡ part A k ∷ part B k ∷ part C k ∷ [] → Cut k
+  in-two : 2 ≤ k .a → 2 ≤ k .b → parts k ≡ part First k ∷ part Second k ∷ [] → Cut k
+  in-three : 2 ≤ k .a → 2 ≤ k .b → parts k ≡ part A k ∷ part B k ∷ part C k ∷ [] → Cut k
 
 pub data Shape (k : Block) : Type 0 where
   in-run : k .b ≡ 1 → parts k ≡ [] → curve k ≡ row (k .run) (k .a) (k .start) → Shape k
@@ -195,10 +225,10 @@ pub data Shape (k : Block) : Type 0 where
 
 shape-by : (k : Block) → Sized k → Chosen (k .a) (k .b) → Shape k
 unfolding parts-of curve-by
-shape-by k h (runs e b) = in-run b (parts-are k StraightRun e) (rw e at (curve-rule k h))
-shape-by k h (sides e a b) = in-side a (parts-are k StraightSide e) (rw e at (curve-rule k h))
-shape-by k h (long e a b l) = cut (long a b (parts-are k LongCut e)) (rw e at (curve-rule k h))
-shape-by k h (u e a b l) = cut (u a b (parts-are k UCut e)) (rw e at (curve-rule k h))
+shape-by k h (is-run e b) = in-run b (parts-are k StraightRun e) (rw e at (curve-rule k h))
+shape-by k h (is-side e a b) = in-side a (parts-are k StraightSide e) (rw e at (curve-rule k h))
+shape-by k h (is-long e a b l) = cut (in-two a b (parts-are k LongCut e)) (rw e at (curve-rule k h))
+shape-by k h (is-u e a b l) = cut (in-three a b (parts-are k UCut e)) (rw e at (curve-rule k h))
 
 pub shape : (k : Block) → Sized k → Shape k
 shape k h = shape-by k h (chosen k h)

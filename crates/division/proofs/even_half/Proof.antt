@@ -1,0 +1,17 @@
+-- `division::even_half` meets its contract: a half plus its own parity is the even half where the length is over 2.
+use borrow.Author.Needs.{needs}
+use Rattle.division.proofs.Walks.{half-small, half-large}
+use Rattle.division.proofs.even_half.Statement.{statement}
+use Rattle.division.proofs.even_half.Tie as tie
+
+returns : tie.Need-returns
+returns c = half-small (c .before .args .len) (c .if1 .taken)
+
+add-result : tie.Need-add-result
+add-result c = search needs
+
+returns-2 : tie.Need-returns-2
+returns-2 c = half-large (c .before .args .len) (c .if1 .left)
+
+pub even-half-spec : {M : Type 1} → statement M
+even-half-spec = tie.close (tie.spec returns add-result returns-2)

@@ -1,0 +1,32 @@
+-- `division::part_b` meets its contract: the even half is less than the side, so the step across the run stays within the area.
+use borrow.Author.Needs.{needs}
+use native.Mathlib.Omega.{arith}
+use Rattle.division.specs.Division.Rules.{halves, u-lengths}
+use Rattle.division.specs.Forms.{block}
+use Rattle.division.proofs.Walks.{steps-across, b-block}
+use Rattle.division.proofs.part_b.Statement.{statement}
+use Rattle.division.proofs.part_b.Tie as tie
+
+even-half-requires : tie.Need-even-half-requires
+even-half-requires c κs = search needs
+
+stepped-requires : tie.Need-stepped-requires
+stepped-requires c κs =
+    let k = c .before .args .k in
+    let pre = c .before .pre in
+    let half = halves (k .b) (u-lengths (block k) (pre .0 .sized) (pre .1) .1) in
+    steps-across k (pre .0) (c .even-half .result) (omega (arith, c .even-half .ensures))
+
+sub-t4 : tie.Need-sub-t4
+sub-t4 c =
+    let k = c .before .before .before .args .k in
+    let pre = c .before .before .before .pre in
+    let half = halves (k .b) (u-lengths (block k) (pre .0 .sized) (pre .1) .1) in
+    omega (arith, c .before .before .even-half .ensures)
+
+returns : tie.Need-returns
+returns c =
+    b-block (c .before .before .before .args .k) (c .before .before .even-half .result) (c .before .stepped .result) (c .before .before .even-half .ensures) (c .before .stepped .ensures)
+
+pub part-b-spec : {M : Type 1} → statement M
+part-b-spec = tie.close (tie.spec even-half-requires stepped-requires sub-t4 returns)
