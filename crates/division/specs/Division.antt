@@ -7,9 +7,9 @@ use lib.Dec.{leb, ltb, eqb}
 use lib.ListN.{getD}
 use Rattle.division.specs.declared.Choice.{Choice}
 use Rattle.division.specs.declared.Choice.the-variants.{StraightRun, StraightSide, LongCut, UCut}
+pub mod Worked
 pub mod Inside
 pub mod Rules
-pub mod Worked
 
 -- x where the test holds, else y
 abbrev pub pick {ℓ} : {X : Type ℓ} → Bool → X → X → X
