@@ -1,5 +1,5 @@
 -- A square's place in a list that holds it once, and the square at a place: each is the other's way back.
-use mathlib.Core.Bool.{Bool, true, false, and-eq-true-iff}
+use mathlib.Core.Bool.{Bool, true, false, and-eq-true-iff, cond}
 use mathlib.Core.List.{List, [], _∷_, _++_}
 use mathlib.Core.Path.{_≡_, refl, sym, ap, _∙_}
 use Prim.Native.Nat.{ℕ, zero, suc, _+_, _≤_, _<_}
@@ -8,7 +8,7 @@ use native.Mathlib.Omega.{arith}
 use borrow.Author.Tests.{eqb-true, eq-eqb}
 use lib.Dec.{eqb}
 use lib.ListN.{length, getD}
-use Rattle.division.specs.Division.{Square, pick, one, count, same, place-in}
+use Rattle.division.specs.Division.{Square, one, count, same, place-in}
 
 pub same-true : (p q : Square) → same p q ≡ true → p ≡ q
 unfolding same
@@ -33,13 +33,13 @@ module _ (p z : Square) (zs : List Square) (d : Square) where
   -- the head is p, or it is not and p is looked for in the rest
   found-by : (t : Bool) → same p z ≡ t → 1 ≤ one t + count (same p) zs
       → (1 ≤ count (same p) zs → (place-in zs p < length zs) × (getD zs (place-in zs p) d ≡ p))
-      → (pick t 0 (suc (place-in zs p)) < length (z ∷ zs)) × (getD (z ∷ zs) (pick t 0 (suc (place-in zs p))) d ≡ p)
+      → (cond t 0 (suc (place-in zs p)) < length (z ∷ zs)) × (getD (z ∷ zs) (cond t 0 (suc (place-in zs p))) d ≡ p)
   found-by true e l next = (omega arith, sym (same-true p z e))
   found-by false e l next = let f = next (omega arith) in (omega arith, f .1)
 
   unique-by : (t : Bool) → same p z ≡ t → (i : ℕ) → one t + count (same p) zs ≤ 1 → i < length zs → getD zs i d ≡ p
       → (count (same p) zs ≤ 1 → place-in zs p ≡ i)
-      → pick t 0 (suc (place-in zs p)) ≡ suc i
+      → cond t 0 (suc (place-in zs p)) ≡ suc i
   unique-by true e i l r q next = let f = counted p zs i d r q in absurd (omega arith)
   unique-by false e i l r q next = ap suc (next (omega arith))
 
@@ -58,13 +58,13 @@ unique p (z ∷ zs) (suc i) d l r e = unique-by p z zs d (same p z) refl i l (le
 module _ (p z : Square) (zs ys : List Square) where
   left-by : (t : Bool) → same p z ≡ t → 1 ≤ one t + count (same p) zs
       → (1 ≤ count (same p) zs → place-in (zs ++ ys) p ≡ place-in zs p)
-      → pick t 0 (suc (place-in (zs ++ ys) p)) ≡ pick t 0 (suc (place-in zs p))
+      → cond t 0 (suc (place-in (zs ++ ys) p)) ≡ cond t 0 (suc (place-in zs p))
   left-by true e l next = refl
   left-by false e l next = ap suc (next (omega arith))
 
   right-by : (t : Bool) → same p z ≡ t → one t + count (same p) zs ≡ 0
       → (count (same p) zs ≡ 0 → place-in (zs ++ ys) p ≡ length zs + place-in ys p)
-      → pick t 0 (suc (place-in (zs ++ ys) p)) ≡ suc (length zs) + place-in ys p
+      → cond t 0 (suc (place-in (zs ++ ys) p)) ≡ suc (length zs) + place-in ys p
   right-by true e l next = absurd (omega arith)
   right-by false e l next = ap suc (next (omega arith)) ∙ sym (suc-add (length zs) (place-in ys p))
 

@@ -1,6 +1,6 @@
 -- What the shared functions of src/ need: the even half as computed, steps that stay coordinates in a block that lies inside, and each part of a
 -- placed block and of a spot, by the two bits.
-use mathlib.Core.Bool.{Bool, true, false, not}
+use mathlib.Core.Bool.{Bool, true, false, not, cond}
 use mathlib.Core.Path.{_≡_, refl, ap, ap₂, subst⁻¹, _∙_}
 use Prim.Native.Nat.{ℕ, _+_, _-_, _/_, _%_, _≤_, _<_}
 use native.Mathlib.Nat.{add-zero, sub-zero}
@@ -9,7 +9,7 @@ use borrow.Author.Tests.{lt-ltb, le-ltb, eqb-true, eqb-false, ltb-false}
 use lib.Dec.{ltb, eqb}
 use Rattle.division.specs.declared.Placed.{Placed}
 use Rattle.division.specs.declared.Spot.{Spot}
-use Rattle.division.specs.Division.{pick, square, even-half, First, Second, A, B, C, part, moved, against}
+use Rattle.division.specs.Division.{square, even-half, First, Second, A, B, C, part, moved, against}
 use Rattle.division.specs.Division.Inside.{Room, Inside}
 use Rattle.division.specs.Forms.{direction, block, stepped-to, Steps, entered}
 
@@ -18,7 +18,7 @@ pub half-small : (L : ℕ) → L ≤ 2 → L / 2 ≡ even-half L
 unfolding even-half
 half-small L l = rw (le-ltb 2 L l)
 
-half-by : (L : ℕ) (t : Bool) → eqb (L / 2 % 2) 1 ≡ t → L / 2 + L / 2 % 2 ≡ pick t (L / 2 + 1) (L / 2)
+half-by : (L : ℕ) (t : Bool) → eqb (L / 2 % 2) 1 ≡ t → L / 2 + L / 2 % 2 ≡ cond t (L / 2 + 1) (L / 2)
 half-by L true e = omega (arith, eqb-true (L / 2 % 2) 1 e)
 half-by L false e = omega (arith, eqb-false (L / 2 % 2) 1 e)
 
@@ -28,7 +28,7 @@ half-large L l = rw (lt-ltb 2 L l) (half-by L (eqb (L / 2 % 2) 1) refl)
 
 -- steps of less than the run's length, and of less than the side's, stay within the area
 steps-by : (along across : ℕ) (turned back : Bool) (a n : ℕ)
-    → Room 65535 65535 (direction turned back) a (pick turned (square across along) (square along across)) → n < a → Steps along n back
+    → Room 65535 65535 (direction turned back) a (cond turned (square across along) (square along across)) → n < a → Steps along n back
 steps-by along across false false a n r l = omega arith
 steps-by along across false true a n r l = omega arith
 steps-by along across true false a n r l = omega arith
@@ -38,7 +38,7 @@ pub steps-along : (k : Placed) → Inside 65535 65535 (block k) → (n : ℕ) �
 steps-along k i n l = steps-by (k .along) (k .across) (k .turned) (k .back) (k .a) n (i .run) l
 
 steps-across-by : (along across : ℕ) (turned back : Bool) (b n : ℕ)
-    → Room 65535 65535 (direction (not turned) back) b (pick turned (square across along) (square along across)) → n < b → Steps across n back
+    → Room 65535 65535 (direction (not turned) back) b (cond turned (square across along) (square along across)) → n < b → Steps across n back
 steps-across-by along across false back b n r l = steps-by across along true back b n r l
 steps-across-by along across true back b n r l = steps-by across along false back b n r l
 
@@ -47,8 +47,8 @@ steps-across k i n l = steps-across-by (k .along) (k .across) (k .turned) (k .ba
 
 -- the parts of a placed block, each by the two bits of its directions
 long-by : (along across a b : ℕ) (turned back second : Bool)
-    → block (record { along = stepped-to along (pick second (even-half a) 0) back; across = across; turned = turned; back = back; a = pick second (a - even-half a) (even-half a); b = b })
-    ≡ part (pick second Second First) (block (record { along = along; across = across; turned = turned; back = back; a = a; b = b }))
+    → block (record { along = stepped-to along (cond second (even-half a) 0) back; across = across; turned = turned; back = back; a = cond second (a - even-half a) (even-half a); b = b })
+    ≡ part (cond second Second First) (block (record { along = along; across = across; turned = turned; back = back; a = a; b = b }))
 unfolding part moved
 long-by along across a b false false true = refl
 long-by along across a b false true true = refl
@@ -59,13 +59,13 @@ long-by along across a b false true false = rw sub-zero
 long-by along across a b true false false = rw add-zero
 long-by along across a b true true false = rw sub-zero
 
-pub long-block : (k : Placed) (second : Bool) (e skip there run : ℕ) → e ≡ even-half (k .a) → skip ≡ pick second e 0
-    → there ≡ stepped-to (k .along) skip (k .back) → run ≡ pick second (k .a - e) e
-    → block (record { along = there; across = k .across; turned = k .turned; back = k .back; a = run; b = k .b }) ≡ part (pick second Second First) (block k)
+pub long-block : (k : Placed) (second : Bool) (e skip there run : ℕ) → e ≡ even-half (k .a) → skip ≡ cond second e 0
+    → there ≡ stepped-to (k .along) skip (k .back) → run ≡ cond second (k .a - e) e
+    → block (record { along = there; across = k .across; turned = k .turned; back = k .back; a = run; b = k .b }) ≡ part (cond second Second First) (block k)
 long-block k second e skip there run p q r s =
-    let is-there : there ≡ stepped-to (k .along) (pick second (even-half (k .a)) 0) (k .back) =
-    r ∙ ap (λ n. stepped-to (k .along) n (k .back)) (q ∙ ap (λ n. pick second n 0) p) in
-    let is-run : run ≡ pick second (k .a - even-half (k .a)) (even-half (k .a)) = s ∙ ap (λ n. pick second (k .a - n) n) p in
+    let is-there : there ≡ stepped-to (k .along) (cond second (even-half (k .a)) 0) (k .back) =
+    r ∙ ap (λ n. stepped-to (k .along) n (k .back)) (q ∙ ap (λ n. cond second n 0) p) in
+    let is-run : run ≡ cond second (k .a - even-half (k .a)) (even-half (k .a)) = s ∙ ap (λ n. cond second (k .a - n) n) p in
     ap₂ (λ t n. block (record { along = t; across = k .across; turned = k .turned; back = k .back; a = n; b = k .b })) is-there is-run
     ∙ long-by (k .along) (k .across) (k .a) (k .b) (k .turned) (k .back) second
 
@@ -112,19 +112,19 @@ c-block k e up last p q r =
 
 -- the long cut's part that holds a spot
 long-spot-by : (s : Spot) (first : Bool)
-    → _≡_ {A = Spot} (record { a = pick first (even-half (s .a)) (s .a - even-half (s .a)); b = s .b; u = s .u - pick first 0 (even-half (s .a)); v = s .v }) (entered (pick first First Second) s)
+    → _≡_ {A = Spot} (record { a = cond first (even-half (s .a)) (s .a - even-half (s .a)); b = s .b; u = s .u - cond first 0 (even-half (s .a)); v = s .v }) (entered (cond first First Second) s)
 long-spot-by s true = rw sub-zero
 long-spot-by s false = refl
 
-pub long-spot : (s : Spot) (e run skip : ℕ) → e ≡ even-half (s .a) → run ≡ pick (ltb (s .u) e) e (s .a - e) → skip ≡ pick (ltb (s .u) e) 0 e
-    → _≡_ {A = Spot} (record { a = run; b = s .b; u = s .u - skip; v = s .v }) (entered (pick (ltb (s .u) (even-half (s .a))) First Second) s)
+pub long-spot : (s : Spot) (e run skip : ℕ) → e ≡ even-half (s .a) → run ≡ cond (ltb (s .u) e) e (s .a - e) → skip ≡ cond (ltb (s .u) e) 0 e
+    → _≡_ {A = Spot} (record { a = run; b = s .b; u = s .u - skip; v = s .v }) (entered (cond (ltb (s .u) (even-half (s .a))) First Second) s)
 long-spot s e run skip p q r =
-    (λ i. record { a = (q ∙ ap (λ n. pick (ltb (s .u) n) n (s .a - n)) p) i; b = s .b; u = s .u - (r ∙ ap (λ n. pick (ltb (s .u) n) 0 n) p) i; v = s .v })
+    (λ i. record { a = (q ∙ ap (λ n. cond (ltb (s .u) n) n (s .a - n)) p) i; b = s .b; u = s .u - (r ∙ ap (λ n. cond (ltb (s .u) n) 0 n) p) i; v = s .v })
     ∙ long-spot-by s (ltb (s .u) (even-half (s .a)))
 
-skip-by : (u e : ℕ) (t : Bool) → ltb u e ≡ t → pick t 0 e ≤ u
+skip-by : (u e : ℕ) (t : Bool) → ltb u e ≡ t → cond t 0 e ≤ u
 skip-by u e true p = omega arith
 skip-by u e false p = ltb-false u e p
 
-pub skip-within : (u e skip : ℕ) → skip ≡ pick (ltb u e) 0 e → skip ≤ u
+pub skip-within : (u e skip : ℕ) → skip ≡ cond (ltb u e) 0 e → skip ≤ u
 skip-within u e skip p = subst⁻¹ (λ (n : ℕ). n ≤ u) p (skip-by u e (ltb u e) refl)

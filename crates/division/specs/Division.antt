@@ -1,6 +1,6 @@
 -- The division of a rectangle, and the curve through its squares: document 01, "The division of a rectangle", in that section's order
 -- and words, one definition under each of its sentences. Lengths, coordinates and numbers are natural numbers.
-use mathlib.Core.Bool.{Bool, true, false, _&&_}
+use mathlib.Core.Bool.{Bool, true, false, _&&_, cond}
 use mathlib.Core.List.{List, [], _∷_, map, flatten}
 use Prim.Native.Nat.{ℕ, zero, suc, _+_, _-_, _*_, _/_, _%_}
 use lib.Dec.{leb, ltb, eqb}
@@ -10,11 +10,6 @@ use Rattle.division.specs.declared.Choice.the-variants.{StraightRun, Str
 pub mod Worked
 pub mod Inside
 pub mod Rules
-
--- x where the test holds, else y
-abbrev pub pick {ℓ} : {X : Type ℓ} → Bool → X → X → X
-pick true x y = x
-pick false x y = y
 
 -- "Squares are (x, y)."
 pub record Square : Type 0 where
@@ -54,11 +49,11 @@ whole w h = record { start = square 0 0; run = +x; a = w; side = +y; b = h }
 
 -- "The choice rule, in this order: 1. b = 1: straight. 2. a = 1: straight. 3. 2a > 3b: the long cut. 4. Otherwise: the U cut."
 unfoldable pub choice : ℕ → ℕ → Choice
-choice a b = pick (eqb b 1) StraightRun (pick (eqb a 1) StraightSide (pick (ltb (3 * b) (2 * a)) LongCut UCut))
+choice a b = cond (eqb b 1) StraightRun (cond (eqb a 1) StraightSide (cond (ltb (3 * b) (2 * a)) LongCut UCut))
 
 -- "The even half of a length L is L div 2, and one more if L > 2 and L div 2 is odd."
 unfoldable pub even-half : ℕ → ℕ
-even-half L = pick (ltb 2 L && eqb (L / 2 % 2) 1) (L / 2 + 1) (L / 2)
+even-half L = cond (ltb 2 L && eqb (L / 2 % 2) 1) (L / 2 + 1) (L / 2)
 
 -- "Long cut, two parts in this order. .. U cut, three parts in this order."
 pub data Part : Type 0 where
@@ -153,7 +148,7 @@ same p q = eqb (p .x) (q .x) && eqb (p .y) (q .y)
 
 unfoldable pub place-in : List Square → Square → ℕ
 place-in [] p = 0
-place-in (q ∷ qs) p = pick (same p q) 0 (suc (place-in qs p))
+place-in (q ∷ qs) p = cond (same p q) 0 (suc (place-in qs p))
 
 unfoldable pub square-of : Block → ℕ → Square
 square-of k i = getD (curve k) i (square 0 0)

@@ -1,9 +1,9 @@
 -- The two forms in which the code holds a block of the division, read as what the division says.
-use mathlib.Core.Bool.{Bool, true, false, not}
+use mathlib.Core.Bool.{Bool, true, false, not, cond}
 use Prim.Native.Nat.{ℕ, _+_, _-_, _/_, _≤_}
 use Rattle.division.specs.declared.Placed.{Placed}
 use Rattle.division.specs.declared.Spot.{Spot}
-use Rattle.division.specs.Division.{pick, square, Direction, +x, +y, -x, -y, Block, even-half, Part, First, Second, A, B, C}
+use Rattle.division.specs.Division.{square, Direction, +x, +y, -x, -y, Block, even-half, Part, First, Second, A, B, C}
 
 -- A direction by two bits: along y or along x, and backwards or not.
 abbrev pub direction : (turned back : Bool) → Direction
@@ -16,7 +16,7 @@ direction true true = -y
 abbrev pub block : Placed → Block
 block k =
     record {
-      start = pick (k .turned) (square (k .across) (k .along)) (square (k .along) (k .across));
+      start = cond (k .turned) (square (k .across) (k .along)) (square (k .along) (k .across));
       run = direction (k .turned) (k .back);
       a = k .a;
       side = direction (not (k .turned)) (k .back);
@@ -25,7 +25,7 @@ block k =
 
 -- A coordinate n squares on, or back, and what has to hold for that to be one.
 abbrev pub stepped-to : ℕ → ℕ → Bool → ℕ
-stepped-to at n back = pick back (at - n) (at + n)
+stepped-to at n back = cond back (at - n) (at + n)
 
 abbrev pub Steps : ℕ → ℕ → Bool → Type 0
 Steps at n true = n ≤ at

@@ -3,11 +3,12 @@
 // A walk holds a block in one of two forms. `Placed` has the start on the axes of run and side and two bits for the directions, for walks that
 // go from numbers to squares. `Spot` has no start and no direction: a square as (u, v), u along the run and v along the side, for walks that go
 // from squares to numbers. No length or coordinate is over 65,535.
+ghost use mathlib.Core.Bool.{cond};
 ghost use mathlib.Core.Path.{_≡_};
 ghost use Prim.Native.Nat.{_≤_, _<_};
 ghost use lib.Dec.{ltb};
 ghost use Rattle.division.specs.declared.Choice.the-variants.{LongCut, UCut};
-ghost use Rattle.division.specs.Division.{pick, choice, even-half, Part, First, Second, B, C, part};
+ghost use Rattle.division.specs.Division.{choice, even-half, Part, First, Second, B, C, part};
 ghost use Rattle.division.specs.Division.Inside.{Inside};
 ghost use Rattle.division.specs.Forms.{block, stepped-to, Steps, entered};
 
@@ -49,7 +50,7 @@ pub fn even_half(len: u32) -> u32
 
 // x or y by a test, without a branch in the compiled code.
 pub fn either(test: bool, x: u32, y: u32) -> u32
-    ensures { λ r. ⌜ r ≡ pick test x y ⌝ }
+    ensures { λ r. ⌜ r ≡ cond test x y ⌝ }
 {
     if test { x } else { y }
 }
@@ -76,7 +77,7 @@ pub struct Placed {
 // The long cut's second part, or its first.
 pub fn long_part(k: Placed, second: bool) -> Placed
     requires { ⌜ Inside 65535 65535 (block k) × (choice (k .a) (k .b) ≡ LongCut) ⌝ }
-    ensures { λ r. ⌜ block r ≡ part (pick second Second First) (block k) ⌝ }
+    ensures { λ r. ⌜ block r ≡ part (cond second Second First) (block k) ⌝ }
 {
     let e = even_half(k.a);
     let skip = either(second, e, 0);
@@ -148,7 +149,7 @@ pub struct Spot {
 // The square as the long cut's part that holds it has it.
 pub fn in_long(s: Spot) -> Spot
     requires { ⌜ (2 ≤ s .a) × (s .u < s .a) ⌝ }
-    ensures { λ r. ⌜ r ≡ entered (pick (ltb (s .u) (even-half (s .a))) First Second) s ⌝ }
+    ensures { λ r. ⌜ r ≡ entered (cond (ltb (s .u) (even-half (s .a))) First Second) s ⌝ }
 {
     let e = even_half(s.a);
     let first = s.u < e;

@@ -1,10 +1,10 @@
 -- `division::long_part` meets its contract: the even half is less than the run, so the step along the run stays within the area.
 use borrow.Author.Needs.{needs}
 use native.Mathlib.Omega.{arith}
-use mathlib.Core.Bool.{Bool, true, false}
+use mathlib.Core.Bool.{Bool, true, false, cond}
 use mathlib.Core.Path.{_≡_}
 use Prim.Native.Nat.{ℕ, _≤_, _<_}
-use Rattle.division.specs.Division.{pick, even-half}
+use Rattle.division.specs.Division.{even-half}
 use Rattle.division.specs.Division.Rules.{halves, long-lengths}
 use Rattle.division.specs.Forms.{block}
 use Rattle.division.proofs.Walks.{steps-along, long-block}
@@ -12,7 +12,7 @@ use Rattle.division.proofs.long_part.Statement.{statement}
 use Rattle.division.proofs.long_part.Tie as tie
 
 -- the step, or none, is less than the run
-skip-less : (a e skip : ℕ) (second : Bool) → 2 ≤ a → e ≡ even-half a → skip ≡ pick second e 0 → skip < a
+skip-less : (a e skip : ℕ) (second : Bool) → 2 ≤ a → e ≡ even-half a → skip ≡ cond second e 0 → skip < a
 skip-less a e skip true l p q = let half = halves a l in omega arith
 skip-less a e skip false l p q = omega arith
 

@@ -1,6 +1,6 @@
 -- The rules of the division as laws, with no bound on how deep the cuts go: what the curve and the blocks of a block are, by its case, and
 -- the one induction over blocks that every further law uses. A sized block has both lengths at least 1.
-use mathlib.Core.Bool.{Bool, true, false, _&&_, false≢true}
+use mathlib.Core.Bool.{Bool, true, false, _&&_, false≢true, cond}
 use mathlib.Core.List.{List, [], _∷_, _++_, map, flatten, append-nil}
 use mathlib.Core.Path.{_≡_, refl, sym, _∙_, ap, ap₂, subst, subst⁻¹}
 use Prim.Native.Nat.{ℕ, zero, suc, _+_, _-_, _*_, _/_, _%_, _≤_, _<_}
@@ -10,7 +10,7 @@ use borrow.Author.Tests.{ltb-true, ltb-false, eqb-true, eqb-false}
 use lib.Dec.{ltb, eqb}
 use Rattle.division.specs.declared.Choice.{Choice}
 use Rattle.division.specs.declared.Choice.the-variants.{StraightRun, StraightSide, LongCut, UCut}
-use Rattle.division.specs.Division.{pick, Block, choice, even-half, First, Second, A, B, C, part, parts, parts-of, row, curve-by, down, curve, blocks}
+use Rattle.division.specs.Division.{Block, choice, even-half, First, Second, A, B, C, part, parts, parts-of, row, curve-by, down, curve, blocks}
 use Rattle.division.specs.Division.Inside.{Sized}
 
 -- P of each of a list
@@ -37,7 +37,7 @@ pub record Halves (L e : ℕ) : Type 0 where
   pub low : L ≤ 3 * e
   pub high : 3 * e ≤ 2 * L
 
-halves-by : (L : ℕ) (s t : Bool) → 2 ≤ L → ltb 2 L ≡ s → eqb (L / 2 % 2) 1 ≡ t → Halves L (pick (s && t) (L / 2 + 1) (L / 2))
+halves-by : (L : ℕ) (s t : Bool) → 2 ≤ L → ltb 2 L ≡ s → eqb (L / 2 % 2) 1 ≡ t → Halves L (cond (s && t) (L / 2 + 1) (L / 2))
 halves-by L true true h p q = omega (arith, ltb-true 2 L p, eqb-true (L / 2 % 2) 1 q)
 halves-by L true false h p q = omega (arith, ltb-true 2 L p, eqb-false (L / 2 % 2) 1 q)
 halves-by L false t h p q = omega (arith, ltb-false 2 L p)

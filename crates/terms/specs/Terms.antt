@@ -1,0 +1,49 @@
+-- The terms that every contract uses: which areas are accepted, the refusals' numbers, and an answer's figures on paper. Document 01, "What is
+-- bought" and "Refusal numbers".
+use mathlib.Core.Bool.{Bool, _&&_}
+use mathlib.Core.List.{List}
+use Prim.Native.Nat.{ℕ}
+use lib.Dec.{leb}
+use lib.ListN.{replicate}
+use Rattle.terms.specs.declared.Refusal.{Refusal}
+use Rattle.terms.specs.declared.Refusal.the-variants.{AreaLimit, SquareOutside, NumberOutside, TableLength, NotANumber, WrongShape, NoArea, LongLine, TooDeep}
+
+-- "An area has a width w and a height h, each from 1 to 65,535."
+abbrev pub length-accepted : ℕ → Bool
+length-accepted n = leb 1 n && leb n 65535
+
+unfoldable pub accepted : (w h : ℕ) → Bool
+accepted w h = length-accepted w && length-accepted h
+
+-- The refusals' numbers, in the table's words.
+abbrev pub refusal-number : Refusal → ℕ
+-- "w or h is 0 or over 65,535"
+refusal-number AreaLimit = 1
+-- "x >= w or y >= h"
+refusal-number SquareOutside = 2
+-- "number >= w·h"
+refusal-number NumberOutside = 3
+-- "table length is not w·h"
+refusal-number TableLength = 4
+-- "a field of a line is not a number"
+refusal-number NotANumber = 5
+-- "a line has the wrong shape"
+refusal-number WrongShape = 6
+-- "N or S line with no area in force"
+refusal-number NoArea = 7
+-- "a line has over 64 bytes"
+refusal-number LongLine = 8
+-- "a descent would open a 65th block"
+refusal-number TooDeep = 9
+
+-- An answer's figures on paper: the refusal's number, 0 where there is none, and the values in their order.
+pub record Figures : Type 0 where
+  pub refusal : ℕ
+  pub values : List ℕ
+
+abbrev pub answered : List ℕ → Figures
+answered values = record { refusal = 0; values = values }
+
+-- "the number, all else 0", where n values would be answered
+abbrev pub refused : Refusal → ℕ → Figures
+refused r n = record { refusal = refusal-number r; values = replicate n 0 }

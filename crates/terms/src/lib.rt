@@ -1,0 +1,59 @@
+// What every crate shares: the area, whether it is accepted, and the refusals by name and number.
+ghost use mathlib.Core.Path.{_≡_};
+ghost use Rattle.terms.specs.Terms.{length-accepted, accepted, refusal-number};
+
+// An area's width and height.
+pub struct Area {
+    pub w: u32,
+    pub h: u32,
+}
+
+// Why a call or a line is refused.
+pub enum Refusal {
+    AreaLimit,
+    SquareOutside,
+    NumberOutside,
+    TableLength,
+    NotANumber,
+    WrongShape,
+    NoArea,
+    LongLine,
+    TooDeep,
+}
+
+// Whether a width or a height is within the limit.
+fn is_length(n: u32) -> bool
+    ensures { λ r. ⌜ r ≡ length-accepted n ⌝ }
+{
+    if n < 1 {
+        return false;
+    }
+    n <= 65535
+}
+
+// Whether an area is within the limit.
+pub fn accepts(area: Area) -> bool
+    ensures { λ r. ⌜ r ≡ accepted (area .w) (area .h) ⌝ }
+{
+    if is_length(area.w) {
+        return is_length(area.h);
+    }
+    false
+}
+
+// The number that a refusal has on the crew card.
+pub fn refusal_number(r: Refusal) -> u32
+    ensures { λ n. ⌜ n ≡ refusal-number r ⌝ }
+{
+    match r {
+        Refusal::AreaLimit => 1,
+        Refusal::SquareOutside => 2,
+        Refusal::NumberOutside => 3,
+        Refusal::TableLength => 4,
+        Refusal::NotANumber => 5,
+        Refusal::WrongShape => 6,
+        Refusal::NoArea => 7,
+        Refusal::LongLine => 8,
+        Refusal::TooDeep => 9,
+    }
+}
