@@ -13,13 +13,13 @@ abbrev pub area : Block → ℕ
 area k = k .a * k .b
 
 -- a length and the rest of it
-long-areas : (e a b : ℕ) → e ≤ a → e * b + ((a - e) * b + 0) ≡ a * b
+pub long-areas : (e a b : ℕ) → e ≤ a → e * b + ((a - e) * b + 0) ≡ a * b
 long-areas e a b l =
     let s : (e + (a - e)) * b ≡ e * b + (a - e) * b = add-mul e (a - e) b in
     let t : (e + (a - e)) * b ≡ a * b = ap (λ n. n * b) (omega arith) in
     omega arith
 
-u-areas : (e m a b : ℕ) → e ≤ b → m ≤ a → e * m + (a * (b - e) + (e * (a - m) + 0)) ≡ a * b
+pub u-areas : (e m a b : ℕ) → e ≤ b → m ≤ a → e * m + (a * (b - e) + (e * (a - m) + 0)) ≡ a * b
 u-areas e m a b l r =
     let s : e * m + e * (a - m) ≡ e * a = sym (mul-add e m (a - m)) ∙ ap (λ n. e * n) (omega arith) in
     let t : a * e + a * (b - e) ≡ a * b = sym (mul-add a e (b - e)) ∙ ap (λ n. a * n) (omega arith) in

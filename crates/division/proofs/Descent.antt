@@ -3,7 +3,7 @@
 use mathlib.Core.Bool.{true}
 use mathlib.Core.List.{List, [], _∷_, _++_, map, flatten}
 use mathlib.Core.Path.{_≡_, sym, ap, ap₂, subst, subst⁻¹, _∙_}
-use Prim.Native.Nat.{ℕ, zero, suc, _+_, _<_}
+use Prim.Native.Nat.{ℕ, zero, suc, _+_, _≤_, _<_}
 use native.Mathlib.Nat.{le-of-suc-le-suc}
 use native.Mathlib.Numerals.{one-add}
 use native.Mathlib.Omega.{arith}
@@ -14,7 +14,7 @@ use Rattle.division.specs.Division.Inside.{Sized, Inside}
 use Rattle.division.specs.Division.Rules.{All, All-map, Cut, Shape, in-run, in-side, cut, shape}
 use Rattle.division.proofs.Plane.{one-le, moved-add, moved-none}
 use Rattle.division.proofs.Sums.{total, total-all, total-append, count-joined, length-joined, flatten-append, none-of, all-left, all-right}
-use Rattle.division.proofs.Cuts.{area, inside-parts, holds-parts}
+use Rattle.division.proofs.Cuts.{area, areas, inside-parts, holds-parts}
 use Rattle.division.proofs.Places.{place-left, place-right}
 use Rattle.division.proofs.Once.{length-curve, once, one-true}
 use Rattle.division.proofs.Blocks.{bounded, holding-rule}
@@ -45,6 +45,13 @@ module _ (w h : ℕ) (k : Block) (i : Inside w h k) (before : List Block) (q : B
 
   pub part-inside : Inside w h q
   part-inside = all-right (Inside w h) before (q ∷ after) all-inside .0
+
+  -- the parts before it leave it its room
+  pub skip-fits : total area before + area q ≤ area k
+  skip-fits =
+      let sum : total area before + (area q + total area after) ≡ area k =
+      sym (total-append area before (q ∷ after)) ∙ ap (total area) (sym e) ∙ areas k the-cut in
+      omega arith
 
   joined : Shape k → curve k ≡ flatten (map curve before) ++ (curve q ++ flatten (map curve after))
   unfolding flatten

@@ -14,13 +14,13 @@ use lib.Seq.{ext-getD}
 use Rattle.division.specs.declared.Choice.the-variants.{StraightRun, StraightSide, LongCut, UCut}
 use Rattle.division.specs.Division.{Square, square, Block, whole, choice, even-half, Part, First, Second, A, B, C, part, parts, parts-of, moved, against, within, holds, curve, blocks-holding, square-of, number-of}
 use Rattle.division.specs.Division.Inside.{Sized, Inside}
-use Rattle.division.specs.Division.Rules.{All, halves, induction, Chosen, is-run, is-side, is-long, is-u, chosen, parts-are, rule}
+use Rattle.division.specs.Division.Rules.{All, halves, induction, Chosen, is-run, is-side, is-long, is-u, chosen, parts-are, rule, Smaller, smaller}
 use Rattle.division.proofs.Plane.{turned, moved-add, moved-swap, moved-back, moved-none, room-across, room-first, within-moved, within-aside}
 use Rattle.division.proofs.Sums.{total, all-right}
 use Rattle.division.proofs.Cuts.{area}
 use Rattle.division.proofs.Once.{length-curve, square-held, square-of-number, number-of-square}
 use Rattle.division.proofs.Blocks.{whole-inside}
-use Rattle.division.proofs.Descent.{run-square, side-square, straight-holding, part-inside, number-in, holding-in}
+use Rattle.division.proofs.Descent.{skip-fits, run-square, side-square, straight-holding, part-inside, number-in, holding-in}
 
 not-lt : {m n : ℕ} → ¬ (m < n) → n ≤ m
 not-lt f = omega arith
@@ -161,7 +161,7 @@ part-whole j B = refl
 part-whole j C = refl
 
 -- the squares of some parts of an a by b block
-pub squares-of : ℕ → ℕ → List Part → ℕ
+unfoldable pub squares-of : ℕ → ℕ → List Part → ℕ
 squares-of a b ps = total (λ p. area (part p (whole a b))) ps
 
 squares-in : (j : Block) (ps : List Part) → total area (map (λ p. part p j) ps) ≡ squares-of (j .a) (j .b) ps
@@ -218,6 +218,12 @@ module _ (w h : ℕ) (j : Block) (i : Inside w h j) (two : 2 ≤ j .b) (s : Squa
   pub lies-inside : Inside w h (part (lies .name) j)
   lies-inside = part-inside w h j i (map (λ p. part p j) (lies .before)) (part (lies .name) j) (map (λ p. part p j) (lies .after)) (lies-parts j s lies)
 
+  -- the parts before it leave it its room
+  pub lies-fits : squares-of (j .a) (j .b) (lies .before) + area (part (lies .name) j) ≤ area j
+  lies-fits =
+      subst (λ (n : ℕ). n + area (part (lies .name) j) ≤ area j) (squares-in j (lies .before))
+      (skip-fits w h j i (map (λ p. part p j) (lies .before)) (part (lies .name) j) (map (λ p. part p j) (lies .after)) (lies-parts j s lies))
+
   cut-answer : (n m : ℕ) → Answer (part (lies .name) j) (lies .there) n m → Answer j s (squares-of (j .a) (j .b) (lies .before) + n) (suc m)
   cut-answer n m answer =
       let q = part (lies .name) j in
@@ -230,6 +236,12 @@ module _ (w h : ℕ) (j : Block) (i : Inside w h j) (two : 2 ≤ j .b) (s : Squa
         number-is = ap (number-of j) there ∙ number-in w h j i before q after (lies-parts j s lies) (spot q (lies .there)) held ∙ ap₂ _+_ (squares-in j (lies .before)) (answer .number-is);
         holding-is = ap (blocks-holding j) there ∙ holding-in w h j i before q after (lies-parts j s lies) (spot q (lies .there)) held ∙ ap suc (answer .holding-is);
       }
+
+-- the part is smaller than the block
+pub lies-smaller : (j : Block) → Sized j → (s : Square) (lies : Lies (j .a) (j .b) s) → Smaller j (part (lies .name) j)
+lies-smaller j z s lies =
+    all-right (Smaller j) (map (λ p. part p j) (lies .before)) (part (lies .name) j ∷ map (λ p. part p j) (lies .after))
+    (subst (All (Smaller j)) (lies-parts j s lies) (smaller j z)) .0
 
 -- every (u, v) of a cut block lies in a part
 lies-long : (a b : ℕ) (s : Square) → Within a b s → choice a b ≡ LongCut → Lies a b s

@@ -1,8 +1,8 @@
 -- The rules of the division as laws, with no bound on how deep the cuts go: what the curve and the blocks of a block are, by its case, and
 -- the one induction over blocks that every further law uses. A sized block has both lengths at least 1.
-use mathlib.Core.Bool.{Bool, true, false, _&&_, false≢true, cond}
+use mathlib.Core.Bool.{Bool, true, false, _&&_, cond}
 use mathlib.Core.List.{List, [], _∷_, _++_, map, flatten, append-nil}
-use mathlib.Core.Path.{_≡_, refl, sym, _∙_, ap, ap₂, subst, subst⁻¹}
+use mathlib.Core.Path.{_≡_, refl, ap, ap₂, subst, subst⁻¹}
 use Prim.Native.Nat.{ℕ, zero, suc, _+_, _-_, _*_, _/_, _%_, _≤_, _<_}
 use native.Mathlib.Nat.{le-refl, mul-assoc, mul-comm, mul-le-mul}
 use native.Mathlib.Omega.{arith}
@@ -65,27 +65,49 @@ chosen-by a b false false false ha hb p q o =
 pub chosen : (k : Block) → Sized k → Chosen (k .a) (k .b)
 chosen k h = chosen-by (k .a) (k .b) (eqb (k .b) 1) (eqb (k .a) 1) (ltb (3 * k .b) (2 * k .a)) (h .run) (h .side) refl refl refl
 
--- a block that is cut has both lengths from 2 on
-is-cut : Choice → Bool
-is-cut StraightRun = false
-is-cut StraightSide = false
-is-cut LongCut = true
-is-cut UCut = true
+-- what a case says of the lengths: a straight block has one length 1, and one that is cut has both from 2 on
+tag : Choice → ℕ
+tag StraightRun = 0
+tag StraightSide = 1
+tag LongCut = 2
+tag UCut = 3
 
-cut-by : (a b : ℕ) → Chosen a b → is-cut (choice a b) ≡ true → (2 ≤ a) × (2 ≤ b)
-unfolding is-cut
-cut-by a b (is-run e o) c = absurd (false≢true (sym (ap is-cut e) ∙ c))
-cut-by a b (is-side e o l) c = absurd (false≢true (sym (ap is-cut e) ∙ c))
-cut-by a b (is-long e la lb l) c = (la, lb)
-cut-by a b (is-u e la lb l) c = (la, lb)
+cut-by : (a b : ℕ) → Chosen a b → 2 ≤ tag (choice a b) → (2 ≤ a) × (2 ≤ b)
+unfolding tag
+cut-by a b (is-run e o) t = absurd (omega (arith, ap tag e))
+cut-by a b (is-side e o l) t = absurd (omega (arith, ap tag e))
+cut-by a b (is-long e la lb l) t = (la, lb)
+cut-by a b (is-u e la lb l) t = (la, lb)
+
+run-by : (a b : ℕ) → Chosen a b → tag (choice a b) ≡ 0 → b ≡ 1
+unfolding tag
+run-by a b (is-run e o) t = o
+run-by a b (is-side e o l) t = absurd (omega (arith, ap tag e))
+run-by a b (is-long e la lb l) t = absurd (omega (arith, ap tag e))
+run-by a b (is-u e la lb l) t = absurd (omega (arith, ap tag e))
+
+side-by : (a b : ℕ) → Chosen a b → tag (choice a b) ≡ 1 → a ≡ 1
+unfolding tag
+side-by a b (is-run e o) t = absurd (omega (arith, ap tag e))
+side-by a b (is-side e o l) t = o
+side-by a b (is-long e la lb l) t = absurd (omega (arith, ap tag e))
+side-by a b (is-u e la lb l) t = absurd (omega (arith, ap tag e))
+
+pub run-length : (k : Block) → Sized k → choice (k .a) (k .b) ≡ StraightRun → k .b ≡ 1
+unfolding tag
+run-length k h e = run-by (k .a) (k .b) (chosen k h) (ap tag e)
+
+pub side-length : (k : Block) → Sized k → choice (k .a) (k .b) ≡ StraightSide → k .a ≡ 1
+unfolding tag
+side-length k h e = side-by (k .a) (k .b) (chosen k h) (ap tag e)
 
 pub long-lengths : (k : Block) → Sized k → choice (k .a) (k .b) ≡ LongCut → (2 ≤ k .a) × (2 ≤ k .b)
-unfolding is-cut
-long-lengths k h e = cut-by (k .a) (k .b) (chosen k h) (ap is-cut e)
+unfolding tag
+long-lengths k h e = cut-by (k .a) (k .b) (chosen k h) (omega (arith, ap tag e))
 
 pub u-lengths : (k : Block) → Sized k → choice (k .a) (k .b) ≡ UCut → (2 ≤ k .a) × (2 ≤ k .b)
-unfolding is-cut
-u-lengths k h e = cut-by (k .a) (k .b) (chosen k h) (ap is-cut e)
+unfolding tag
+u-lengths k h e = cut-by (k .a) (k .b) (chosen k h) (omega (arith, ap tag e))
 
 -- the parts of a block by its case
 pub parts-are : (k : Block) (c : Choice) → choice (k .a) (k .b) ≡ c → parts k ≡ map (λ p. part p k) (parts-of c)

@@ -1,0 +1,167 @@
+-- One step of a descent: the part that has a number, with the rest of it. One law over the part, and for each cut which part it is.
+use mathlib.Core.Bool.{Bool, true, false, not, cond}
+use mathlib.Core.List.{List, [], _∷_, _++_}
+use mathlib.Core.Path.{_≡_, refl, sym, ap, ap₂, subst, subst⁻¹, _∙_}
+use Prim.Native.Nat.{ℕ, suc, _+_, _-_, _*_, _/_, _≤_, _<_}
+use native.Mathlib.Nat.{mul-one, one-mul, mul-le-mul}
+use native.Mathlib.Omega.{arith}
+use borrow.Author.Tests.{leb-true, leb-false}
+use lib.Dec.{leb}
+use Rattle.division.specs.declared.Choice.the-variants.{StraightRun, StraightSide, LongCut, UCut}
+use Rattle.division.specs.declared.Placed.{Placed}
+use Rattle.division.specs.Division.{Direction, +x, +y, -x, -y, Square, square, moved, Block, choice, even-half, First, Second, A, B, C, part, parts, parts-of, square-of, blocks-holding}
+use Rattle.division.specs.Division.Inside.{Room, Inside}
+use Rattle.division.specs.Division.Rules.{All, Smaller, smaller, parts-are, halves, long-lengths, u-lengths, run-length, side-length, rule}
+use Rattle.division.specs.Forms.{direction, block, stepped-to}
+use Rattle.division.proofs.Sums.{total, all-right}
+use Rattle.division.proofs.Cuts.{area, long-areas, u-areas}
+use Rattle.division.proofs.Once.{square-held}
+use Rattle.division.proofs.Descent.{part-inside, square-in, holding-in, straight-holding, run-square, side-square}
+use Rattle.curve.specs.Descents.{square-word, Enters, Descends, descent-word}
+
+-- a block within 65,535 by 65,535 has lengths up to that
+room-limit : (d : Direction) (n : ℕ) (s : Square) → Room 65535 65535 d n s → n ≤ 65535
+room-limit +x n s r = omega arith
+room-limit +y n s r = omega arith
+room-limit -x n s r = omega arith
+room-limit -y n s r = omega arith
+
+pub a-limit : (k : Block) → Inside 65535 65535 k → k .a ≤ 65535
+a-limit k i = room-limit (k .run) (k .a) (k .start) (i .run)
+
+pub b-limit : (k : Block) → Inside 65535 65535 k → k .b ≤ 65535
+b-limit k i = room-limit (k .side) (k .b) (k .start) (i .side)
+
+-- the squares of lengths up to 65,535 are a 32-bit number
+pub product-limit : (a b : ℕ) → a ≤ 65535 → b ≤ 65535 → a * b < 4294967296
+product-limit a b l m = let p : a * b ≤ 65535 * 65535 = mul-le-mul l m in omega arith
+
+enters : (k : Block) → Inside 65535 65535 k → (before : List Block) (q : Block) (after : List Block) → parts k ≡ before ++ (q ∷ after)
+    → (i j : ℕ) → total area before + j ≡ i → j < area q → Enters k i q j
+enters k inside before q after e i j sum below =
+    let within = part-inside 65535 65535 k inside before q after e in
+    let less : Smaller k q = all-right (Smaller k) before (q ∷ after) (subst (All (Smaller k)) e (smaller k (inside .sized))) .0 in
+    let same : square-of k i ≡ square-of q j = ap (square-of k) (sym sum) ∙ square-in 65535 65535 k inside before q after e j below in
+    let held = square-held 65535 65535 q within j below in
+    record {
+      inside = within;
+      falls = let thirds = less .two-thirds in omega arith;
+      below = below;
+      square = sym same;
+      holding = subst⁻¹ (λ (p : Square). _≡_ {A = ℕ} (blocks-holding k p) (suc (blocks-holding q p))) same (holding-in 65535 65535 k inside before q after e (square-of q j) held);
+    }
+
+-- the first part of a long cut has the numbers below the even half of a times b, the second the rest
+pub long-enters : (k : Block) (i : ℕ) → Inside 65535 65535 k → i < area k → choice (k .a) (k .b) ≡ LongCut → (second : Bool) → leb (even-half (k .a) * k .b) i ≡ second
+    → Enters k i (part (cond second Second First) k) (i - cond second (even-half (k .a) * k .b) 0)
+unfolding parts-of part
+long-enters k i inside l e true t =
+    let half = halves (k .a) (long-lengths k (inside .sized) e .0) in
+    let from = leb-true (even-half (k .a) * k .b) i t in
+    let sum = long-areas (even-half (k .a)) (k .a) (k .b) (omega arith) in
+    enters k inside (part First k ∷ []) (part Second k) [] (parts-are k LongCut e) i (i - even-half (k .a) * k .b) (omega arith) (omega arith)
+long-enters k i inside l e false t =
+    enters k inside [] (part First k) (part Second k ∷ []) (parts-are k LongCut e) i (i - 0) (omega arith) (omega (arith, leb-false (even-half (k .a) * k .b) i t))
+
+-- the parts of a U cut: A has the numbers below e·m, B the a·(b - e) after them, C the rest
+pub u-sum : (k : Block) → Inside 65535 65535 k → choice (k .a) (k .b) ≡ UCut → (e : ℕ) → e ≡ even-half (k .b)
+    → (e ≤ k .b) × (e * (k .a / 2) + (k .a * (k .b - e) + (e * (k .a - k .a / 2) + 0)) ≡ area k)
+u-sum k inside c e is =
+    let half = halves (k .b) (u-lengths k (inside .sized) c .1) in
+    (omega arith, u-areas e (k .a / 2) (k .a) (k .b) (omega arith) (omega arith))
+
+module _ (k : Block) (i : ℕ) (inside : Inside 65535 65535 k) (l : i < area k) (c : choice (k .a) (k .b) ≡ UCut) where
+  pub a-enters : i < even-half (k .b) * (k .a / 2) → Enters k i (part A k) i
+  unfolding parts-of part
+  a-enters m = enters k inside [] (part A k) (part B k ∷ part C k ∷ []) (parts-are k UCut c) i i (omega arith) m
+
+  pub b-enters : even-half (k .b) * (k .a / 2) ≤ i → i < even-half (k .b) * (k .a / 2) + k .a * (k .b - even-half (k .b)) → Enters k i (part B k) (i - even-half (k .b) * (k .a / 2))
+  unfolding parts-of part
+  b-enters m n =
+      enters k inside (part A k ∷ []) (part B k) (part C k ∷ []) (parts-are k UCut c) i (i - even-half (k .b) * (k .a / 2)) (omega arith) (omega arith)
+
+  pub c-enters : even-half (k .b) * (k .a / 2) + k .a * (k .b - even-half (k .b)) ≤ i → Enters k i (part C k) (i - (even-half (k .b) * (k .a / 2) + k .a * (k .b - even-half (k .b))))
+  unfolding parts-of part
+  c-enters m =
+      let sum = u-sum k inside c (even-half (k .b)) refl .1 in
+      enters k inside (part A k ∷ part B k ∷ []) (part C k) [] (parts-are k UCut c) i (i - (even-half (k .b) * (k .a / 2) + k .a * (k .b - even-half (k .b)))) (omega arith) (omega arith)
+
+-- a straight block's squares, as the two bits give them
+run-moved : (along across : ℕ) (turned back : Bool) (i : ℕ)
+    → cond turned (square across (stepped-to along i back)) (square (stepped-to along i back) across)
+    ≡ moved (direction turned back) i (cond turned (square across along) (square along across))
+unfolding moved
+run-moved along across false false i = refl
+run-moved along across false true i = refl
+run-moved along across true false i = refl
+run-moved along across true true i = refl
+
+side-moved : (along across : ℕ) (turned back : Bool) (i : ℕ)
+    → cond turned (square (stepped-to across i back) along) (square along (stepped-to across i back))
+    ≡ moved (direction (not turned) back) i (cond turned (square across along) (square along across))
+unfolding moved
+side-moved along across false false i = refl
+side-moved along across false true i = refl
+side-moved along across true false i = refl
+side-moved along across true true i = refl
+
+-- a descent's word in a straight block, and from a part's to its block's
+module _ (k : Placed) {i above : ℕ} (r : Descends (block k) i above) where
+  alone : parts (block k) ≡ [] → blocks-holding (block k) (square-of (block k) i) ≡ 1
+  alone e = straight-holding (block k) (square-of (block k) i) (r .inside .sized) e (square-held 65535 65535 (block k) (r .inside) i (r .below))
+
+  module _ (c : choice (k .a) (k .b) ≡ StraightRun) where
+    pub run-below : i < k .a
+    run-below = subst (λ (n : ℕ). i < n) (ap (λ n. k .a * n) (run-length (block k) (r .inside .sized) c) ∙ mul-one (k .a)) (r .below)
+
+    run-alone : blocks-holding (block k) (square-of (block k) i) ≡ 1
+    unfolding parts-of
+    run-alone = alone (parts-are (block k) StraightRun c)
+
+    pub run-count : above + 1 < 256
+    run-count = let n = run-alone in let l = r .count in omega arith
+
+    pub run-word : (there : ℕ) → there ≡ stepped-to (k .along) i (k .back)
+        → square-word (cond (k .turned) (square (k .across) there) (square there (k .across))) (above + 1) ≡ descent-word (block k) i above
+    run-word there e =
+        ap₂ square-word
+        (ap (λ n. cond (k .turned) (square (k .across) n) (square n (k .across))) e
+        ∙ run-moved (k .along) (k .across) (k .turned) (k .back) i
+        ∙ sym (run-square (block k) (rule (block k) StraightRun (r .inside .sized) c .0) i run-below))
+        (ap (λ n. above + n) (sym run-alone))
+
+  module _ (c : choice (k .a) (k .b) ≡ StraightSide) where
+    pub side-below : i < k .b
+    side-below = subst (λ (n : ℕ). i < n) (ap (λ n. n * k .b) (side-length (block k) (r .inside .sized) c) ∙ one-mul (k .b)) (r .below)
+
+    side-alone : blocks-holding (block k) (square-of (block k) i) ≡ 1
+    unfolding parts-of
+    side-alone = alone (parts-are (block k) StraightSide c)
+
+    pub side-count : above + 1 < 256
+    side-count = let n = side-alone in let l = r .count in omega arith
+
+    pub side-word : (there : ℕ) → there ≡ stepped-to (k .across) i (k .back)
+        → square-word (cond (k .turned) (square there (k .along)) (square (k .along) there)) (above + 1) ≡ descent-word (block k) i above
+    side-word there e =
+        ap₂ square-word
+        (ap (λ n. cond (k .turned) (square n (k .along)) (square (k .along) n)) e
+        ∙ side-moved (k .along) (k .across) (k .turned) (k .back) i
+        ∙ sym (side-square (block k) (rule (block k) StraightSide (r .inside .sized) c .0) i side-below))
+        (ap (λ n. above + n) (sym side-alone))
+
+module _ {k : Block} {i above : ℕ} (r : Descends k i above) {q : Block} {j : ℕ} (l : Enters k i q j) where
+  blocks-there : above + 1 + blocks-holding q (square-of q j) ≡ above + blocks-holding k (square-of k i)
+  blocks-there =
+      let same : blocks-holding q (square-of q j) ≡ blocks-holding q (square-of k i) = ap (blocks-holding q) (l .square) in
+      let more = l .holding in
+      omega arith
+
+  pub next-descent : Descends q j (above + 1)
+  next-descent = record { inside = l .inside; below = l .below; count = let n = blocks-there in let m = r .count in omega arith }
+
+  pub next-count : above + 1 < 256
+  next-count = let m = r .count in let n = l .holding in omega arith
+
+  pub next-word : descent-word q j (above + 1) ≡ descent-word k i above
+  next-word = ap₂ square-word (l .square) blocks-there

@@ -1,0 +1,47 @@
+-- `curve::long_at` meets its contract: the numbers before the part are what was taken off u, 0 or the even half, times the side.
+use mathlib.Core.Bool.{Bool, true, false, cond}
+use mathlib.Core.Path.{_≡_, sym, subst}
+use Prim.Native.Nat.{_-_, _*_, _≤_}
+use native.Mathlib.Nat.{mul-le-mul-right}
+use native.Mathlib.Omega.{arith}
+use lib.Dec.{ltb}
+use Rattle.division.specs.declared.Spot.{Spot}
+use Rattle.division.specs.Division.{even-half, First, Second}
+use Rattle.division.specs.Forms.{entered}
+use Rattle.curve.proofs.Toward.{long-two, long-leads}
+use Rattle.curve.proofs.long_at.Statement.{statement}
+use Rattle.curve.proofs.long_at.Tie as tie
+
+-- what is taken off u leaves no less than 0
+less-by : (s : Spot) (first : Bool) → entered (cond first First Second) s .u ≤ s .u
+less-by s true = omega arith
+less-by s false = omega arith
+
+spot-less : (s t : Spot) → t ≡ entered (cond (ltb (s .u) (even-half (s .a))) First Second) s → t .u ≤ s .u
+spot-less s t e = subst (λ (t : Spot). t .u ≤ s .u) (sym e) (less-by s (ltb (s .u) (even-half (s .a))))
+
+in-long-requires : tie.Need-in-long-requires
+in-long-requires c κs = (long-two (c .args .s) (c .args .before) (c .pre .0) (c .pre .1) .0, c .pre .0 .along)
+
+sub-t4 : tie.Need-sub-t4
+sub-t4 c = spot-less (c .before .before .before .args .s) (c .before .before .in-long .result) (c .before .before .in-long .ensures)
+
+mul-t5 : tie.Need-mul-t5
+mul-t5 c =
+    let s = c .before .before .before .before .args .s in
+    let r = c .before .before .before .before .pre .0 in
+    let part : (s .u - c .before .before .before .in-long .result .u) * s .b ≤ s .a * s .b = mul-le-mul-right (s .b) (let l = r .along in omega arith) in
+    record { fits = let room = r .room in omega arith }
+
+add-t6 : tie.Need-add-t6
+add-t6 c =
+    let s = c .before .before .before .before .args .s in
+    let r = c .before .before .before .before .pre .0 in
+    let part : (s .u - c .before .before .before .in-long .result .u) * s .b ≤ s .a * s .b = mul-le-mul-right (s .b) (let l = r .along in omega arith) in
+    record { fits = let room = r .room in omega arith }
+
+returns : tie.Need-returns
+returns c = long-leads (c .before .before .before .before .args .s) (c .before .before .before .before .args .before) (c .before .before .before .before .pre .0) (c .before .before .before .before .pre .1) (c .before .before .before .in-long .result) (c .before .before .before .in-long .ensures)
+
+pub long-at-spec : {M : Type 1} → statement M
+long-at-spec = tie.close (tie.spec in-long-requires sub-t4 mul-t5 add-t6 returns)

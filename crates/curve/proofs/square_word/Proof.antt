@@ -1,0 +1,58 @@
+-- `curve::square_word` meets its contract: the choice of x and y by the bit is the choice of the square.
+use borrow.Author.Needs.{needs}
+use mathlib.Core.Bool.{Bool, true, false, cond}
+use mathlib.Core.Path.{_≡_, refl, ap₂, _∙_}
+use Prim.Native.Nat.{ℕ, _+_, _*_}
+use Rattle.division.specs.Division.{square}
+use Rattle.curve.specs.Descents.{square-word}
+use Rattle.curve.proofs.square_word.Statement.{statement}
+use Rattle.curve.proofs.square_word.Tie as tie
+
+word-by : (along across blocks : ℕ) (turned : Bool)
+    → (cond turned across along * 65536 + cond turned along across) * 256 + blocks ≡ square-word (cond turned (square across along) (square along across)) blocks
+word-by along across blocks true = refl
+word-by along across blocks false = refl
+
+either-requires : tie.Need-either-requires
+either-requires c κs = search needs
+
+either-requires-2 : tie.Need-either-requires-2
+either-requires-2 c κs = search needs
+
+cast-result : tie.Need-cast-result
+cast-result c = search needs
+
+mul-result : tie.Need-mul-result
+mul-result c = search needs
+
+cast-result-2 : tie.Need-cast-result-2
+cast-result-2 c = search needs
+
+add-result : tie.Need-add-result
+add-result c = search needs
+
+mul-result-2 : tie.Need-mul-result-2
+mul-result-2 c = search needs
+
+add-result-2 : tie.Need-add-result-2
+add-result-2 c = search needs
+
+returns : tie.Need-returns
+returns c =
+    let start = c .before .before .args in
+    ap₂ (λ x y. (x * 65536 + y) * 256 + start .blocks) (c .before .either .ensures) (c .either2 .ensures)
+    ∙ word-by (start .along) (start .across) (start .blocks) (start .turned)
+
+pub square-word-spec : {M : Type 1} → statement M
+square-word-spec =
+    tie.close
+    (tie.spec
+    either-requires
+    either-requires-2
+    cast-result
+    mul-result
+    cast-result-2
+    add-result
+    mul-result-2
+    add-result-2
+    returns)

@@ -1,0 +1,96 @@
+-- `curve::u_with` meets its contract: each part has the numbers from the sum of those before it up to its own sum.
+use borrow.Author.Needs.{needs}
+use mathlib.Core.Path.{sym, subst, subst⁻¹}
+use Prim.Native.Nat.{ℕ, _+_, _-_, _*_, _/_, _≤_, _<_}
+use native.Mathlib.Omega.{arith}
+use Rattle.division.specs.Division.{Block, B, C, part}
+use Rattle.division.specs.Forms.{block}
+use Rattle.curve.specs.Descents.{Enters}
+use Rattle.curve.proofs.Into.{a-limit, b-limit, product-limit, u-sum, a-enters, b-enters, c-enters}
+use Rattle.curve.proofs.u_with.Statement.{statement}
+use Rattle.curve.proofs.u_with.Tie as tie
+
+even-half-requires : tie.Need-even-half-requires
+even-half-requires c κs = search needs
+
+mul-to-b : tie.Need-mul-to-b
+mul-to-b c =
+    let k = c .before .before .args .k in
+    let inside = c .before .before .pre .0 in
+    let sum = u-sum (block k) inside (c .before .before .pre .2) (c .before .even-half .result) (c .before .even-half .ensures) in
+    let all = product-limit (k .a) (k .b) (a-limit (block k) inside) (b-limit (block k) inside) in
+    record { fits = omega arith }
+
+part-a-requires : tie.Need-part-a-requires
+part-a-requires c κs = search needs
+
+returns : tie.Need-returns
+returns c =
+    let start = c .before .before .before .before in
+    let e = c .before .before .before .even-half in
+    let k = start .args .k in
+    subst (λ (q : Block). Enters (block k) (start .args .i) q (start .args .i)) (sym (c .part-a .ensures))
+    (a-enters (block k) (start .args .i) (start .pre .0) (start .pre .1) (start .pre .2) (subst (λ (n : ℕ). start .args .i < n * (k .a / 2)) (e .ensures) (c .before .if1 .taken)))
+
+sub-to-c : tie.Need-sub-to-c
+sub-to-c c = u-sum (block (c .before .before .before .before .args .k)) (c .before .before .before .before .pre .0) (c .before .before .before .before .pre .2) (c .before .before .before .even-half .result) (c .before .before .before .even-half .ensures) .0
+
+mul-to-c : tie.Need-mul-to-c
+mul-to-c c =
+    let k = c .before .before .before .before .before .args .k in
+    let inside = c .before .before .before .before .before .pre .0 in
+    let sum = u-sum (block k) inside (c .before .before .before .before .before .pre .2) (c .before .before .before .before .even-half .result) (c .before .before .before .before .even-half .ensures) in
+    let all = product-limit (k .a) (k .b) (a-limit (block k) inside) (b-limit (block k) inside) in
+    record { fits = omega arith }
+
+add-to-c : tie.Need-add-to-c
+add-to-c c =
+    let k = c .before .before .before .before .before .args .k in
+    let inside = c .before .before .before .before .before .pre .0 in
+    let sum = u-sum (block k) inside (c .before .before .before .before .before .pre .2) (c .before .before .before .before .even-half .result) (c .before .before .before .before .even-half .ensures) in
+    let all = product-limit (k .a) (k .b) (a-limit (block k) inside) (b-limit (block k) inside) in
+    record { fits = omega arith }
+
+part-b-requires : tie.Need-part-b-requires
+part-b-requires c κs = search needs
+
+returns-2 : tie.Need-returns-2
+returns-2 c =
+    let start = c .before .before .before .before .before .before .before in
+    let e = c .before .before .before .before .before .before .even-half in
+    let k = start .args .k in
+    let i = start .args .i in
+    let m = k .a / 2 in
+    subst (λ (q : Block). Enters (block k) i q (i - e .result * m)) (sym (c .part-b .ensures))
+    (subst⁻¹ (λ (n : ℕ). n * m ≤ i → i < n * m + k .a * (k .b - n) → Enters (block k) i (part B (block k)) (i - n * m)) (e .ensures)
+    (b-enters (block k) i (start .pre .0) (start .pre .1) (start .pre .2)) (c .before .before .before .before .if1 .left) (c .before .if2 .taken))
+
+part-c-requires : tie.Need-part-c-requires
+part-c-requires c κs = search needs
+
+returns-3 : tie.Need-returns-3
+returns-3 c =
+    let start = c .before .before .before .before .before .before .before in
+    let e = c .before .before .before .before .before .before .even-half in
+    let k = start .args .k in
+    let i = start .args .i in
+    let m = k .a / 2 in
+    subst (λ (q : Block). Enters (block k) i q (i - (e .result * m + k .a * (k .b - e .result)))) (sym (c .part-c .ensures))
+    (subst⁻¹ (λ (n : ℕ). n * m + k .a * (k .b - n) ≤ i → Enters (block k) i (part C (block k)) (i - (n * m + k .a * (k .b - n)))) (e .ensures)
+    (c-enters (block k) i (start .pre .0) (start .pre .1) (start .pre .2)) (c .before .if2 .left))
+
+pub u-with-spec : {M : Type 1} → statement M
+u-with-spec =
+    tie.close
+    (tie.spec
+    even-half-requires
+    mul-to-b
+    part-a-requires
+    returns
+    sub-to-c
+    mul-to-c
+    add-to-c
+    part-b-requires
+    returns-2
+    part-c-requires
+    returns-3)

@@ -1,0 +1,68 @@
+-- What the two descents below the lookups ask and return. Each returns a word: a square or a number, and a count of blocks below 256.
+use mathlib.Core.Bool.{Bool}
+use mathlib.Core.Path.{_≡_}
+use Prim.Native.Nat.{ℕ, suc, _+_, _*_, _≤_, _<_}
+use Rattle.division.specs.declared.Spot.{Spot}
+use Rattle.division.specs.Division.{Square, square, Block, whole, square-of, number-of, blocks-holding}
+use Rattle.division.specs.Division.Inside.{Inside}
+use Rattle.division.specs.Forms.{block}
+
+abbrev pub square-word : Square → ℕ → ℕ
+square-word s blocks = (s .x * 65536 + s .y) * 256 + blocks
+
+abbrev pub number-word : ℕ → ℕ → ℕ
+number-word number blocks = number * 256 + blocks
+
+-- The block and the spot of a descent's parameters.
+abbrev pub block-at : (along across : ℕ) (turned back : Bool) (a b : ℕ) → Block
+block-at along across turned back a b = block (record { along = along; across = across; turned = turned; back = back; a = a; b = b })
+
+abbrev pub spot-at : (a b u v : ℕ) → Spot
+spot-at a b u v = record { a = a; b = b; u = u; v = v }
+
+-- One step down from a block's number i to number j of a smaller block in it: the same square, and one block more that holds it.
+pub record Enters (k : Block) (i : ℕ) (q : Block) (j : ℕ) : Type 0 where
+  pub inside : Inside 65535 65535 q
+  pub falls : q .a * q .b < k .a * k .b
+  pub below : j < q .a * q .b
+  pub square : square-of q j ≡ square-of k i
+  pub holding : blocks-holding k (square-of k i) ≡ suc (blocks-holding q (square-of k i))
+
+-- A descent into a block that `above` blocks hold, by its number i.
+pub record Descends (k : Block) (i above : ℕ) : Type 0 where
+  pub inside : Inside 65535 65535 k
+  pub below : i < k .a * k .b
+  pub count : above + blocks-holding k (square-of k i) < 256
+
+abbrev pub descent-word : Block → (i above : ℕ) → ℕ
+descent-word k i above = square-word (square-of k i) (above + blocks-holding k (square-of k i))
+
+-- The number of a spot's square in the area of its lengths, and how many blocks of that area's division hold it.
+abbrev pub spot-number : Spot → ℕ
+spot-number s = number-of (whole (s .a) (s .b)) (square (s .u) (s .v))
+
+abbrev pub spot-blocks : Spot → ℕ
+spot-blocks s = blocks-holding (whole (s .a) (s .b)) (square (s .u) (s .v))
+
+-- A spot that lies in its block, `before` numbers on.
+pub record Lying (s : Spot) (before : ℕ) : Type 0 where
+  pub a-limit : s .a ≤ 65535
+  pub b-limit : s .b ≤ 65535
+  pub along : s .u < s .a
+  pub across : s .v < s .b
+  pub room : before + s .a * s .b < 4294967296
+
+-- One step down from a spot to the same square in a smaller block: the same number, and one block more that holds it.
+pub record Leads (s : Spot) (before : ℕ) (t : Spot) (on : ℕ) : Type 0 where
+  pub lying : Lying t on
+  pub falls : t .a * t .b < s .a * s .b
+  pub number : on + spot-number t ≡ before + spot-number s
+  pub holding : spot-blocks s ≡ suc (spot-blocks t)
+
+-- A search for a spot in a block that `above` blocks hold.
+pub record Searches (s : Spot) (before above : ℕ) : Type 0 where
+  pub lying : Lying s before
+  pub count : above + spot-blocks s < 256
+
+abbrev pub search-word : Spot → (before above : ℕ) → ℕ
+search-word s before above = number-word (before + spot-number s) (above + spot-blocks s)

@@ -1,0 +1,51 @@
+-- What a lookup says, for every area, number and square: document 01, "What a lookup and a table say" and "Refusal numbers", as figures on paper.
+use mathlib.Core.Bool.{_&&_, cond}
+use mathlib.Core.List.{List, [], _∷_}
+use Prim.Native.Nat.{ℕ, _-_, _*_}
+use lib.Dec.{leb, ltb}
+use Rattle.terms.specs.declared.Refusal.the-variants.{AreaLimit, SquareOutside, NumberOutside, TooDeep}
+use Rattle.terms.specs.Terms.{accepted, Figures, answered, refused}
+use Rattle.division.specs.Division.{square, whole, square-of, number-of, blocks-holding}
+use Rattle.curve.specs.declared.SquareAnswer as SquareAnswers
+use Rattle.curve.specs.declared.NumberAnswer as NumberAnswers
+use Rattle.curve.specs.declared.FinishAnswer as FinishAnswers
+
+-- "9: a descent would open a 65th block, that is, over 64 blocks of the division hold one and the same square that the call needs". The figures
+-- of an answer to which n blocks lead, else that refusal in place of as many values.
+abbrev pub unless-deep : (n : ℕ) → List ℕ → (values : ℕ) → Figures
+unless-deep n answer values = cond (leb n 64) (answered answer) (refused TooDeep values)
+
+-- "number to square: x, y; blocks of the division that hold that square". "For library calls the order is 1, then whichever of 2, 3, 4 belongs to
+-- the call, then 9."
+unfoldable pub number-to-square : (w h number : ℕ) → Figures
+number-to-square w h number =
+    let s = square-of (whole w h) number in
+    let n = blocks-holding (whole w h) s in
+    cond (accepted w h)
+    (cond (ltb number (w * h)) (unless-deep n (s .x ∷ s .y ∷ n ∷ []) 3) (refused NumberOutside 3))
+    (refused AreaLimit 3)
+
+-- "square to number: the number; the same"
+unfoldable pub square-to-number : (w h x y : ℕ) → Figures
+square-to-number w h x y =
+    let n = blocks-holding (whole w h) (square x y) in
+    cond (accepted w h)
+    (cond (ltb x w && ltb y h) (unless-deep n (number-of (whole w h) (square x y) ∷ n ∷ []) 2) (refused SquareOutside 2))
+    (refused AreaLimit 2)
+
+-- "finish square: (w - 1, 0), after document 002, section 3.2; none"
+unfoldable pub finish-square : (w h : ℕ) → Figures
+finish-square w h = cond (accepted w h) (answered ((w - 1) ∷ 0 ∷ [])) (refused AreaLimit 2)
+
+-- The figures of each answer: "the number, all else 0" where it is refused.
+abbrev pub square-figures : SquareAnswers.SquareAnswer → Figures
+square-figures (SquareAnswers.the-variants.Found x y blocks) = answered (x ∷ y ∷ blocks ∷ [])
+square-figures (SquareAnswers.the-variants.Refused r) = refused r 3
+
+abbrev pub number-figures : NumberAnswers.NumberAnswer → Figures
+number-figures (NumberAnswers.the-variants.Found number blocks) = answered (number ∷ blocks ∷ [])
+number-figures (NumberAnswers.the-variants.Refused r) = refused r 2
+
+abbrev pub finish-figures : FinishAnswers.FinishAnswer → Figures
+finish-figures (FinishAnswers.the-variants.Found x y) = answered (x ∷ y ∷ [])
+finish-figures (FinishAnswers.the-variants.Refused r) = refused r 2
