@@ -1,3 +1,4 @@
 pub mod Into
 pub mod Toward
 pub mod Answers
+pub mod Promises

@@ -1,8 +1,9 @@
 -- How many blocks a division has, and how many of them hold one square: demand 3. By induction over blocks: at most one part holds the square,
 -- a part has at most two thirds of its block's squares, and a cut block has at least 4.
+use mathlib.Core.Bool.{Bool, true, false}
 use mathlib.Core.List.{List, [], _∷_, map, flatten}
 use mathlib.Core.Logic.{⊎-elim}
-use mathlib.Core.Path.{_≡_, sym, ap, subst⁻¹, _∙_}
+use mathlib.Core.Path.{_≡_, refl, sym, ap, subst⁻¹, _∙_}
 use Prim.Native.Nat.{ℕ, suc, _+_, _*_, _^_, _≤_, _<_}
 use native.Mathlib.Nat.{mul-assoc, mul-comm, mul-le-mul, mul-le-mul-left, mul-le-mul-right, mul-right-comm, pow-suc, eq-or-lt-of-le, lt-of-not-le}
 use native.Mathlib.Decide.{decLe, le-ind}
@@ -14,7 +15,7 @@ use Rattle.division.specs.Division.{Square, Block, whole, parts, blocks,
 use Rattle.division.specs.Division.Inside.{Sized, x-y, Inside}
 use Rattle.division.specs.Division.Rules.{All, All-map, All-use, Smaller, smaller, induction, blocks-rule, Cut, in-two, in-three, Shape, in-run, in-side, cut, shape}
 use Rattle.division.proofs.Plane.{one-le}
-use Rattle.division.proofs.Sums.{total, count-joined, length-joined, all-joined, none-of, one-of}
+use Rattle.division.proofs.Sums.{total, count-joined, length-joined, all-joined, none-of, one-of, total-le}
 use Rattle.division.proofs.Cuts.{area, areas, inside-parts, holds-parts}
 
 -- a cut block has at least 4 squares and two parts
@@ -154,6 +155,21 @@ bounded-by w h p k all i (cut t c) = cut-bounded w h p k i t (All-use (Inside w 
 
 pub bounded : (w h : ℕ) (k : Block) → Inside w h k → (p : Square) → Bounded p k
 bounded w h k i p = induction (λ q. Inside w h q → Bounded p q) (λ q s all j. bounded-by w h p q all j (shape q s)) k (i .sized) i
+
+-- at least two blocks hold each square of a block that is cut
+some-least : (b : Bool) (n : ℕ) → (one b ≡ 1 → 1 ≤ n) → one b ≤ n
+some-least true n h = h refl
+some-least false n h = omega arith
+
+pub cut-holding : (w h : ℕ) (k : Block) → Inside w h k → Cut k → (p : Square) → holds k p ≡ true → 2 ≤ blocks-holding k p
+cut-holding w h k i t p held =
+    let least : total (λ q. one (holds q p)) (parts k) ≤ total (λ q. blocks-holding q p) (parts k) =
+    total-le (λ q. one (holds q p)) (λ q. blocks-holding q p) (parts k)
+    (All-map (λ q j. some-least (holds q p) (blocks-holding q p) (bounded w h q j p .some)) (parts k) (inside-parts w h k i t)) in
+    let sum = holds-parts w h k i t p in
+    let here : one (holds k p) ≡ 1 = ap one held in
+    let rule = holding-rule k p (i .sized) in
+    omega arith
 
 -- once 3 ^ m exceeds 2 ^ m times a number, it goes on exceeding it
 outgrows : (S m : ℕ) → 2 ^ m * S < 3 ^ m → (n : ℕ) → m ≤ n → 2 ^ n * S < 3 ^ n

@@ -82,3 +82,7 @@ all-left P (x ∷ xs) ys h = (h .0, all-left P xs ys (h .1))
 pub all-right : {X : Type 0} (P : X → Type 0) (xs ys : List X) → All P (xs ++ ys) → All P ys
 all-right P [] ys h = h
 all-right P (x ∷ xs) ys h = all-right P xs ys (h .1)
+
+pub total-le : {X : Type 0} (f g : X → ℕ) (zs : List X) → All (λ z. f z ≤ g z) zs → total f zs ≤ total g zs
+total-le f g [] h = omega arith
+total-le f g (z ∷ zs) h = let here = h .0 in let rest = total-le f g zs (h .1) in omega arith

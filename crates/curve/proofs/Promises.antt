@@ -1,0 +1,186 @@
+-- What the lookups' promises come to: each accepted number and square is answered, each lookup undoes the other with the same count, the count
+-- meets demand 3, an answer that meets a promise is the only one, and the wrong programs that a promise turns away.
+use mathlib.Core.Bool.{Bool, true, false, _&&_}
+use mathlib.Core.List.{List, [], _∷_}
+use mathlib.Core.Path.{_≡_, refl, sym, ap, ap₂, subst, subst⁻¹, _∙_}
+use Prim.Native.Nat.{ℕ, suc, _+_, _*_, _^_, _≤_, _<_}
+use native.Mathlib.Omega.{arith}
+use borrow.Author.Tests.{lt-ltb, le-leb, ltb-true, ltb-false}
+use lib.Dec.{ltb, lit<, lit≤}
+use lib.ListN.{getD}
+use Rattle.terms.specs.declared.Refusal.{Refusal}
+use Rattle.terms.specs.Terms.{accepted, Figures, answered, refused, refusal-number}
+use Rattle.terms.proofs.Laws.{limits, refusal-one, refusal-some}
+use Rattle.division.specs.declared.Choice.the-variants.{UCut}
+use Rattle.division.specs.Division.{Square, square, whole, choice, parts-of, square-of, number-of, blocks-holding, holds}
+use Rattle.division.specs.Division.Rules.{parts-are, in-three}
+use Rattle.division.proofs.Once.{square-held, number-below, square-of-number, number-of-square}
+use Rattle.division.proofs.Blocks.{whole-inside, at-most-54, demand-3, cut-holding}
+use Rattle.division.proofs.Local.{whole-holds, whole-within}
+use Rattle.curve.specs.declared.SquareAnswer as SquareAnswers
+use Rattle.curve.specs.declared.NumberAnswer as NumberAnswers
+use Rattle.curve.specs.declared.FinishAnswer as FinishAnswers
+use Rattle.curve.proofs.Answers.{number-outside, square-limit, x-outside, y-outside, number-limit}
+use Rattle.curve.specs.Lookups.{square-figures, number-figures, finish-figures, number-to-square, square-to-number, finish-square}
+
+-- Every number of an accepted area has its square, and every square its number; no lookup ever meets refusal 9.
+module _ (w h : ℕ) (yes : accepted w h ≡ true) where
+  pub number-answered : (n : ℕ) → n < w * h
+      → number-to-square w h n
+      ≡ answered (square-of (whole w h) n .x ∷ square-of (whole w h) n .y ∷ blocks-holding (whole w h) (square-of (whole w h) n) ∷ [])
+  unfolding number-to-square
+  number-answered n l =
+      let all = limits w h yes in
+      let few = at-most-54 w h (all .w-least) (all .w-most) (all .h-least) (all .h-most) (square-of (whole w h) n) in
+      rw (yes, lt-ltb n (w * h) l, le-leb (blocks-holding (whole w h) (square-of (whole w h) n)) 64 (omega arith))
+
+  pub square-answered : (x y : ℕ) → x < w → y < h
+      → square-to-number w h x y ≡ answered (number-of (whole w h) (square x y) ∷ blocks-holding (whole w h) (square x y) ∷ [])
+  unfolding square-to-number
+  square-answered x y l m =
+      let all = limits w h yes in
+      let few = at-most-54 w h (all .w-least) (all .w-most) (all .h-least) (all .h-most) (square x y) in
+      rw (yes, lt-ltb x w l, lt-ltb y h m, le-leb (blocks-holding (whole w h) (square x y)) 64 (omega arith))
+
+-- the i-th value of some figures
+abbrev value : ℕ → Figures → ℕ
+value i f = getD (f .values) i 0
+
+-- an answered lookup was asked for a number, or a square, of an accepted area
+number-by : (w h n : ℕ) (values : List ℕ) (a b : Bool) → accepted w h ≡ a → ltb n (w * h) ≡ b → number-to-square w h n ≡ answered values
+    → (accepted w h ≡ true) × (n < w * h)
+number-by w h n values true true p q e = (p, ltb-true n (w * h) q)
+number-by w h n values true false p q e = absurd (omega (arith, ap (λ f. f .refusal) (number-outside w h p n (ltb-false n (w * h) q) ∙ e)))
+number-by w h n values false b p q e = absurd (omega (arith, ap (λ f. f .refusal) (square-limit w h p n ∙ e)))
+
+number-asked : (w h n : ℕ) (values : List ℕ) → number-to-square w h n ≡ answered values → (accepted w h ≡ true) × (n < w * h)
+number-asked w h n values e = number-by w h n values (accepted w h) (ltb n (w * h)) refl refl e
+
+square-by : (w h x y : ℕ) (values : List ℕ) (a b c : Bool) → accepted w h ≡ a → ltb x w ≡ b → ltb y h ≡ c → square-to-number w h x y ≡ answered values
+    → (accepted w h ≡ true) × (x < w) × (y < h)
+square-by w h x y values true true true p q r e = (p, ltb-true x w q, ltb-true y h r)
+square-by w h x y values true true false p q r e =
+    absurd (omega (arith, ap (λ f. f .refusal) (y-outside w h p x y (ltb-true x w q) (ltb-false y h r) ∙ e)))
+square-by w h x y values true false c p q r e = absurd (omega (arith, ap (λ f. f .refusal) (x-outside w h p x y (ltb-false x w q) ∙ e)))
+square-by w h x y values false b c p q r e = absurd (omega (arith, ap (λ f. f .refusal) (number-limit w h p x y ∙ e)))
+
+square-asked : (w h x y : ℕ) (values : List ℕ) → square-to-number w h x y ≡ answered values → (accepted w h ≡ true) × (x < w) × (y < h)
+square-asked w h x y values e = square-by w h x y values (accepted w h) (ltb x w) (ltb y h) refl refl refl e
+
+-- Each lookup undoes the other, with the same count of blocks.
+pub number-back : (w h n x y k : ℕ) → number-to-square w h n ≡ answered (x ∷ y ∷ k ∷ []) → square-to-number w h x y ≡ answered (n ∷ k ∷ [])
+unfolding whole
+number-back w h n x y k e =
+    let was = number-asked w h n (x ∷ y ∷ k ∷ []) e in
+    let all = limits w h (was .0) in
+    let s = square-of (whole w h) n in
+    let is = sym e ∙ number-answered w h (was .0) n (was .1) in
+    let there : square x y ≡ s = ap₂ square (ap (value 0) is) (ap (value 1) is) in
+    let inside = whole-inside w h (all .w-least) (all .h-least) in
+    let within = whole-within w h s (square-held w h (whole w h) inside n (was .1)) in
+    square-answered w h (was .0) x y (subst⁻¹ (λ (m : ℕ). m < w) (ap (value 0) is) (within .run)) (subst⁻¹ (λ (m : ℕ). m < h) (ap (value 1) is) (within .side))
+    ∙ ap₂ (λ a b. answered (a ∷ b ∷ []))
+    (ap (number-of (whole w h)) there ∙ number-of-square w h (whole w h) inside n (was .1))
+    (ap (blocks-holding (whole w h)) there ∙ sym (ap (value 2) is))
+
+pub square-back : (w h x y n k : ℕ) → square-to-number w h x y ≡ answered (n ∷ k ∷ []) → number-to-square w h n ≡ answered (x ∷ y ∷ k ∷ [])
+unfolding whole
+square-back w h x y n k e =
+    let was = square-asked w h x y (n ∷ k ∷ []) e in
+    let all = limits w h (was .0) in
+    let is = sym e ∙ square-answered w h (was .0) x y (was .1) (was .2) in
+    let held = whole-holds w h (square x y) (record { run = was .1; side = was .2 }) in
+    let inside = whole-inside w h (all .w-least) (all .h-least) in
+    let there : square-of (whole w h) n ≡ square x y = ap (square-of (whole w h)) (ap (value 0) is) ∙ square-of-number w h (whole w h) inside (square x y) held in
+    number-answered w h (was .0) n (subst⁻¹ (λ (m : ℕ). m < w * h) (ap (value 0) is) (number-below w h (whole w h) inside (square x y) held))
+    ∙ ap (λ (s : Square). answered (s .x ∷ s .y ∷ blocks-holding (whole w h) s ∷ [])) there
+    ∙ ap (λ b. answered (x ∷ y ∷ b ∷ [])) (sym (ap (value 1) is))
+
+-- The count of an answered lookup is the division's own, and meets demand 3.
+pub count-is : (w h n x y k : ℕ) → number-to-square w h n ≡ answered (x ∷ y ∷ k ∷ []) → k ≡ blocks-holding (whole w h) (square x y)
+count-is w h n x y k e =
+    let back = number-back w h n x y k e in
+    let was = square-asked w h x y (n ∷ k ∷ []) back in
+    ap (value 1) (sym back ∙ square-answered w h (was .0) x y (was .1) (was .2))
+
+pub count-bound : (w h n x y k : ℕ) → number-to-square w h n ≡ answered (x ∷ y ∷ k ∷ []) → 1 < k → 3 ^ k ≤ 2 ^ k * (w * h)
+count-bound w h n x y k e l =
+    let was = number-asked w h n (x ∷ y ∷ k ∷ []) e in
+    let all = limits w h (was .0) in
+    let is = count-is w h n x y k e in
+    subst⁻¹ (λ (m : ℕ). 3 ^ m ≤ 2 ^ m * (w * h)) is (demand-3 w h (all .w-least) (all .h-least) (square x y) (subst (λ (m : ℕ). 1 < m) is l))
+
+-- Two answers that meet a promise are one.
+pub square-one : (r s : SquareAnswers.SquareAnswer) → square-figures r ≡ square-figures s → r ≡ s
+square-one (SquareAnswers.the-variants.Found x y k) (SquareAnswers.the-variants.Found u v l) e =
+    λ i. SquareAnswers.the-variants.Found (value 0 (e i)) (value 1 (e i)) (value 2 (e i))
+square-one (SquareAnswers.the-variants.Found x y k) (SquareAnswers.the-variants.Refused t) e = absurd (refusal-some t (sym (ap (λ f. f .refusal) e)))
+square-one (SquareAnswers.the-variants.Refused r) (SquareAnswers.the-variants.Found u v l) e = absurd (refusal-some r (ap (λ f. f .refusal) e))
+square-one (SquareAnswers.the-variants.Refused r) (SquareAnswers.the-variants.Refused t) e = ap SquareAnswers.the-variants.Refused (refusal-one r t (ap (λ f. f .refusal) e))
+
+pub number-one : (r s : NumberAnswers.NumberAnswer) → number-figures r ≡ number-figures s → r ≡ s
+number-one (NumberAnswers.the-variants.Found n k) (NumberAnswers.the-variants.Found m l) e = λ i. NumberAnswers.the-variants.Found (value 0 (e i)) (value 1 (e i))
+number-one (NumberAnswers.the-variants.Found n k) (NumberAnswers.the-variants.Refused t) e = absurd (refusal-some t (sym (ap (λ f. f .refusal) e)))
+number-one (NumberAnswers.the-variants.Refused r) (NumberAnswers.the-variants.Found m l) e = absurd (refusal-some r (ap (λ f. f .refusal) e))
+number-one (NumberAnswers.the-variants.Refused r) (NumberAnswers.the-variants.Refused t) e = ap NumberAnswers.the-variants.Refused (refusal-one r t (ap (λ f. f .refusal) e))
+
+pub finish-one : (r s : FinishAnswers.FinishAnswer) → finish-figures r ≡ finish-figures s → r ≡ s
+finish-one (FinishAnswers.the-variants.Found x y) (FinishAnswers.the-variants.Found u v) e = λ i. FinishAnswers.the-variants.Found (value 0 (e i)) (value 1 (e i))
+finish-one (FinishAnswers.the-variants.Found x y) (FinishAnswers.the-variants.Refused t) e = absurd (refusal-some t (sym (ap (λ f. f .refusal) e)))
+finish-one (FinishAnswers.the-variants.Refused r) (FinishAnswers.the-variants.Found u v) e = absurd (refusal-some r (ap (λ f. f .refusal) e))
+finish-one (FinishAnswers.the-variants.Refused r) (FinishAnswers.the-variants.Refused t) e = ap FinishAnswers.the-variants.Refused (refusal-one r t (ap (λ f. f .refusal) e))
+
+-- The wrong programs that the promises turn away, each where it goes wrong first.
+two-squares : accepted 2 1 ≡ true
+unfolding accepted
+two-squares = refl
+
+four-squares : accepted 2 2 ≡ true
+unfolding accepted
+four-squares = refl
+
+-- one that refuses everything
+module _ (f : ℕ → ℕ → ℕ → SquareAnswers.SquareAnswer) (promise : (w h n : ℕ) → square-figures (f w h n) ≡ number-to-square w h n) where
+  pub refuses-everything : ((w h n : ℕ) → (r : Refusal) × (f w h n ≡ SquareAnswers.the-variants.Refused r)) → ⊥
+  refuses-everything all =
+      let given = all 2 1 0 in
+      refusal-some (given .0)
+      (ap (λ g. g .refusal) (ap square-figures (sym (given .1)) ∙ promise 2 1 0 ∙ number-answered 2 1 two-squares 0 (lit< tt)))
+
+  -- one that gives a constant square, whatever the count
+  pub constant-square : (x y : ℕ) → ((w h n : ℕ) → accepted w h ≡ true → n < w * h → (k : ℕ) × (f w h n ≡ SquareAnswers.the-variants.Found x y k)) → ⊥
+  constant-square x y all =
+      let a = all 2 1 0 two-squares (lit< tt) in
+      let b = all 2 1 1 two-squares (lit< tt) in
+      let first = number-back 2 1 0 x y (a .0) (sym (promise 2 1 0) ∙ ap square-figures (a .1)) in
+      let second = number-back 2 1 1 x y (b .0) (sym (promise 2 1 1) ∙ ap square-figures (b .1)) in
+      omega (arith, ap (value 0) (sym first ∙ second))
+
+  -- one whose count is made up: 1 for every square is within demand 3's bound, and is not the division's own count
+  pub made-up-count : ((w h n : ℕ) → accepted w h ≡ true → n < w * h → (x : ℕ) × (y : ℕ) × (f w h n ≡ SquareAnswers.the-variants.Found x y 1)) → ⊥
+  unfolding whole choice parts-of
+  made-up-count all =
+      let a = all 2 2 0 four-squares (lit< tt) in
+      let given = sym (promise 2 2 0) ∙ ap square-figures (a .2) in
+      let is = count-is 2 2 0 (a .0) (a .1) 1 given in
+      let was = square-asked 2 2 (a .0) (a .1) (0 ∷ 1 ∷ []) (number-back 2 2 0 (a .0) (a .1) 1 given) in
+      let inside = whole-inside 2 2 (lit≤ tt) (lit≤ tt) in
+      let held = whole-holds 2 2 (square (a .0) (a .1)) (record { run = was .1; side = was .2 }) in
+      let more = cut-holding 2 2 (whole 2 2) inside (in-three (lit≤ tt) (lit≤ tt) (parts-are (whole 2 2) UCut refl)) (square (a .0) (a .1)) held in
+      omega arith
+
+module _ (g : ℕ → ℕ → ℕ → ℕ → NumberAnswers.NumberAnswer) (promise : (w h x y : ℕ) → number-figures (g w h x y) ≡ square-to-number w h x y) where
+  -- one that refuses every square, and one that gives a constant number
+  pub refuses-every-square : ((w h x y : ℕ) → (r : Refusal) × (g w h x y ≡ NumberAnswers.the-variants.Refused r)) → ⊥
+  refuses-every-square all =
+      let given = all 2 1 0 0 in
+      refusal-some (given .0)
+      (ap (λ f. f .refusal) (ap number-figures (sym (given .1)) ∙ promise 2 1 0 0 ∙ square-answered 2 1 two-squares 0 0 (lit< tt) (lit< tt)))
+
+  pub constant-number : (n : ℕ) → ((w h x y : ℕ) → accepted w h ≡ true → x < w → y < h → (k : ℕ) × (g w h x y ≡ NumberAnswers.the-variants.Found n k)) → ⊥
+  constant-number n all =
+      let a = all 2 1 0 0 two-squares (lit< tt) (lit< tt) in
+      let b = all 2 1 1 0 two-squares (lit< tt) (lit< tt) in
+      let first = square-back 2 1 0 0 n (a .0) (sym (promise 2 1 0 0) ∙ ap number-figures (a .1)) in
+      let second = square-back 2 1 1 0 n (b .0) (sym (promise 2 1 1 0) ∙ ap number-figures (b .1)) in
+      omega (arith, ap (value 0) (sym first ∙ second))
