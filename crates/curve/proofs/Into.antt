@@ -10,8 +10,8 @@ use lib.Dec.{leb}
 use Rattle.division.specs.declared.Choice.the-variants.{StraightRun, StraightSide, LongCut, UCut}
 use Rattle.division.specs.declared.Placed.{Placed}
 use Rattle.division.specs.Division.{Direction, +x, +y, -x, -y, Square, square, moved, Block, choice, even-half, First, Second, A, B, C, part, parts, parts-of, square-of, blocks-holding}
-use Rattle.division.specs.Division.Inside.{Room, Inside}
-use Rattle.division.specs.Division.Rules.{All, Smaller, smaller, parts-are, halves, long-lengths, u-lengths, run-length, side-length, rule}
+use Rattle.division.specs.Division.Inside.{Sized, Room, Inside}
+use Rattle.division.specs.Division.Rules.{All, Chosen, is-run, is-side, is-long, is-u, chosen, Smaller, smaller, parts-are, halves, long-lengths, u-lengths, run-length, side-length, rule}
 use Rattle.division.specs.Forms.{direction, block, stepped-to}
 use Rattle.division.proofs.Sums.{total, all-right}
 use Rattle.division.proofs.Cuts.{area, long-areas, u-areas}
@@ -63,6 +63,25 @@ long-enters k i inside l e true t =
 long-enters k i inside l e false t =
     enters k inside [] (part First k) (part Second k ∷ []) (parts-are k LongCut e) i (i - 0) (omega arith) (omega (arith, leb-false (even-half (k .a) * k .b) i t))
 
+-- a block that is not straight has lengths from 2 on, and a cut that is not long is a U cut
+pub not-straight : (k : Block) → Sized k → (choice (k .a) (k .b) ≡ StraightRun → ⊥) → (choice (k .a) (k .b) ≡ StraightSide → ⊥) → (2 ≤ k .a) × (2 ≤ k .b)
+not-straight k h r s = by (chosen k h)
+  where
+    by : Chosen (k .a) (k .b) → (2 ≤ k .a) × (2 ≤ k .b)
+    by (is-run e b) = absurd (r e)
+    by (is-side e a b) = absurd (s e)
+    by (is-long e a b l) = (a, b)
+    by (is-u e a b l) = (a, b)
+
+pub not-long : (k : Block) → Sized k → 2 ≤ k .a → 2 ≤ k .b → (choice (k .a) (k .b) ≡ LongCut → ⊥) → choice (k .a) (k .b) ≡ UCut
+not-long k h la lb f = by (chosen k h)
+  where
+    by : Chosen (k .a) (k .b) → choice (k .a) (k .b) ≡ UCut
+    by (is-run e b) = absurd (omega arith)
+    by (is-side e a b) = absurd (omega arith)
+    by (is-long e a b l) = absurd (f e)
+    by (is-u e a b l) = e
+
 -- the parts of a U cut: A has the numbers below e·m, B the a·(b - e) after them, C the rest
 pub u-sum : (k : Block) → Inside 65535 65535 k → choice (k .a) (k .b) ≡ UCut → (e : ℕ) → e ≡ even-half (k .b)
     → (e ≤ k .b) × (e * (k .a / 2) + (k .a * (k .b - e) + (e * (k .a - k .a / 2) + 0)) ≡ area k)
@@ -105,50 +124,52 @@ side-moved along across false true i = refl
 side-moved along across true false i = refl
 side-moved along across true true i = refl
 
+pub run-stepped : (k : Placed) (i there blocks : ℕ) → there ≡ stepped-to (k .along) i (k .back)
+    → square-word (cond (k .turned) (square (k .across) there) (square there (k .across))) blocks ≡ square-word (moved (block k .run) i (block k .start)) blocks
+run-stepped k i there blocks e =
+    ap (λ (s : Square). square-word s blocks)
+    (ap (λ n. cond (k .turned) (square (k .across) n) (square n (k .across))) e ∙ run-moved (k .along) (k .across) (k .turned) (k .back) i)
+
+pub side-stepped : (k : Placed) (i there blocks : ℕ) → there ≡ stepped-to (k .across) i (k .back)
+    → square-word (cond (k .turned) (square there (k .along)) (square (k .along) there)) blocks ≡ square-word (moved (block k .side) i (block k .start)) blocks
+side-stepped k i there blocks e =
+    ap (λ (s : Square). square-word s blocks)
+    (ap (λ n. cond (k .turned) (square n (k .along)) (square (k .along) n)) e ∙ side-moved (k .along) (k .across) (k .turned) (k .back) i)
+
 -- a descent's word in a straight block, and from a part's to its block's
-module _ (k : Placed) {i above : ℕ} (r : Descends (block k) i above) where
-  alone : parts (block k) ≡ [] → blocks-holding (block k) (square-of (block k) i) ≡ 1
-  alone e = straight-holding (block k) (square-of (block k) i) (r .inside .sized) e (square-held 65535 65535 (block k) (r .inside) i (r .below))
+module _ {k : Block} {i above : ℕ} (r : Descends k i above) where
+  alone : parts k ≡ [] → blocks-holding k (square-of k i) ≡ 1
+  alone e = straight-holding k (square-of k i) (r .inside .sized) e (square-held 65535 65535 k (r .inside) i (r .below))
 
   module _ (c : choice (k .a) (k .b) ≡ StraightRun) where
     pub run-below : i < k .a
-    run-below = subst (λ (n : ℕ). i < n) (ap (λ n. k .a * n) (run-length (block k) (r .inside .sized) c) ∙ mul-one (k .a)) (r .below)
+    run-below = subst (λ (n : ℕ). i < n) (ap (λ n. k .a * n) (run-length k (r .inside .sized) c) ∙ mul-one (k .a)) (r .below)
 
-    run-alone : blocks-holding (block k) (square-of (block k) i) ≡ 1
+    run-alone : blocks-holding k (square-of k i) ≡ 1
     unfolding parts-of
-    run-alone = alone (parts-are (block k) StraightRun c)
+    run-alone = alone (parts-are k StraightRun c)
 
     pub run-count : above + 1 < 256
     run-count = let n = run-alone in let l = r .count in omega arith
 
-    pub run-word : (there : ℕ) → there ≡ stepped-to (k .along) i (k .back)
-        → square-word (cond (k .turned) (square (k .across) there) (square there (k .across))) (above + 1) ≡ descent-word (block k) i above
-    run-word there e =
-        ap₂ square-word
-        (ap (λ n. cond (k .turned) (square (k .across) n) (square n (k .across))) e
-        ∙ run-moved (k .along) (k .across) (k .turned) (k .back) i
-        ∙ sym (run-square (block k) (rule (block k) StraightRun (r .inside .sized) c .0) i run-below))
-        (ap (λ n. above + n) (sym run-alone))
+    pub run-word : square-word (moved (k .run) i (k .start)) (above + 1) ≡ descent-word k i above
+    run-word =
+        ap₂ square-word (sym (run-square k (rule k StraightRun (r .inside .sized) c .0) i run-below)) (ap (λ n. above + n) (sym run-alone))
 
   module _ (c : choice (k .a) (k .b) ≡ StraightSide) where
     pub side-below : i < k .b
-    side-below = subst (λ (n : ℕ). i < n) (ap (λ n. n * k .b) (side-length (block k) (r .inside .sized) c) ∙ one-mul (k .b)) (r .below)
+    side-below = subst (λ (n : ℕ). i < n) (ap (λ n. n * k .b) (side-length k (r .inside .sized) c) ∙ one-mul (k .b)) (r .below)
 
-    side-alone : blocks-holding (block k) (square-of (block k) i) ≡ 1
+    side-alone : blocks-holding k (square-of k i) ≡ 1
     unfolding parts-of
-    side-alone = alone (parts-are (block k) StraightSide c)
+    side-alone = alone (parts-are k StraightSide c)
 
     pub side-count : above + 1 < 256
     side-count = let n = side-alone in let l = r .count in omega arith
 
-    pub side-word : (there : ℕ) → there ≡ stepped-to (k .across) i (k .back)
-        → square-word (cond (k .turned) (square there (k .along)) (square (k .along) there)) (above + 1) ≡ descent-word (block k) i above
-    side-word there e =
-        ap₂ square-word
-        (ap (λ n. cond (k .turned) (square n (k .along)) (square (k .along) n)) e
-        ∙ side-moved (k .along) (k .across) (k .turned) (k .back) i
-        ∙ sym (side-square (block k) (rule (block k) StraightSide (r .inside .sized) c .0) i side-below))
-        (ap (λ n. above + n) (sym side-alone))
+    pub side-word : square-word (moved (k .side) i (k .start)) (above + 1) ≡ descent-word k i above
+    side-word =
+        ap₂ square-word (sym (side-square k (rule k StraightSide (r .inside .sized) c .0) i side-below)) (ap (λ n. above + n) (sym side-alone))
 
 module _ {k : Block} {i above : ℕ} (r : Descends k i above) {q : Block} {j : ℕ} (l : Enters k i q j) where
   blocks-there : above + 1 + blocks-holding q (square-of q j) ≡ above + blocks-holding k (square-of k i)

@@ -6,11 +6,11 @@ use terms::Area;
 use terms::Refusal;
 ghost use mathlib.Core.Path.{_≡_};
 ghost use mathlib.Core.Bool.{cond};
-ghost use Prim.Native.Nat.{_*_, _<_};
+ghost use Prim.Native.Nat.{_*_, _≤_, _<_};
 ghost use Rattle.division.specs.declared.Choice.the-variants.{LongCut, UCut};
-ghost use Rattle.division.specs.Division.{square, choice};
+ghost use Rattle.division.specs.Division.{square, moved, choice};
 ghost use Rattle.division.specs.Division.Inside.{Inside};
-ghost use Rattle.division.specs.Forms.{block};
+ghost use Rattle.division.specs.Forms.{block, Steps};
 ghost use Rattle.curve.specs.Descents.{square-word, number-word, block-at, spot-at, Enters, Descends, descent-word, Lying, Leads, Searches, search-word};
 ghost use Rattle.curve.specs.Lookups.{square-figures, number-figures, finish-figures, number-to-square, square-to-number, finish-square};
 
@@ -94,6 +94,42 @@ fn u_with(k: Placed, i: u32) -> Inner
     }
 }
 
+// The part of a cut block that has the number i, with the rest of it.
+fn part_with(k: Placed, case: Choice, i: u32) -> Inner
+    requires { ⌜ Inside 65535 65535 (block k) × (i < k .a * k .b) × (case ≡ choice (k .a) (k .b)) × (2 ≤ k .a) × (2 ≤ k .b) ⌝ }
+    ensures { λ r. ⌜ Enters (block k) i (block (r .part)) (r .i) ⌝ }
+{
+    match case {
+        Choice::LongCut => long_with(k, i),
+        _ => u_with(k, i),
+    }
+}
+
+// The square of a straight block's number i, along its run or along its side, and how many blocks hold it.
+fn run_word(k: Placed, i: u32, blocks: u32) -> u64
+    requires { ⌜ Steps (k .along) i (k .back) ⌝ }
+    ensures { λ r. ⌜ r ≡ square-word (moved (block k .run) i (block k .start)) blocks ⌝ }
+{
+    square_word(
+        division::stepped(k.along, i, k.back),
+        k.across,
+        k.turned,
+        blocks,
+    )
+}
+
+fn side_word(k: Placed, i: u32, blocks: u32) -> u64
+    requires { ⌜ Steps (k .across) i (k .back) ⌝ }
+    ensures { λ r. ⌜ r ≡ square-word (moved (block k .side) i (block k .start)) blocks ⌝ }
+{
+    square_word(
+        k.along,
+        division::stepped(k.across, i, k.back),
+        k.turned,
+        blocks,
+    )
+}
+
 // The square of a block's number i, and how many blocks hold it when `above` hold the block. The call on the part is the last act, so that it
 // compiles to a loop.
 fn descend(
@@ -119,34 +155,10 @@ fn descend(
     };
     let case = division::choose(a, b);
     match case {
-        Choice::StraightRun => square_word(
-            division::stepped(along, i, back),
-            across,
-            turned,
-            above + 1,
-        ),
-        Choice::StraightSide => square_word(
-            along,
-            division::stepped(across, i, back),
-            turned,
-            above + 1,
-        ),
-        Choice::LongCut => {
-            let t = long_with(k, i);
-            let q = t.part;
-            descend(
-                q.along,
-                q.across,
-                q.turned,
-                q.back,
-                q.a,
-                q.b,
-                t.i,
-                above + 1,
-            )
-        }
-        Choice::UCut => {
-            let t = u_with(k, i);
+        Choice::StraightRun => run_word(k, i, above + 1),
+        Choice::StraightSide => side_word(k, i, above + 1),
+        _ => {
+            let t = part_with(k, case, i);
             let q = t.part;
             descend(
                 q.along,
