@@ -1,0 +1,66 @@
+-- `traversals::print_row` is safe and ends. The measure is what is left of the count.
+use borrow.Author.Needs.{needs}
+use Prim.Native.Nat.{_≤_, _<_, _-_}
+use Rattle.traversals.proofs.print_row.Statement.{statement}
+use Rattle.traversals.proofs.print_row.Tie as tie
+
+abbrev Inv-loop : tie.InvT-loop
+Inv-loop w h₀ h = h ≤ 41
+
+abbrev μ-loop : tie.MeasureT-loop
+μ-loop w h₀ h = 41 - h
+
+loop-holds : tie.Need-loop-holds Inv-loop μ-loop
+loop-holds c = search needs
+
+print-requires : tie.Need-print-requires Inv-loop μ-loop
+print-requires c κs = search needs
+
+cast-also : tie.Need-cast-also Inv-loop μ-loop
+cast-also c = search needs
+
+also-requires : tie.Need-also-requires Inv-loop μ-loop
+also-requires c κs = search needs
+
+numbers-digest-requires : tie.Need-numbers-digest-requires Inv-loop μ-loop
+numbers-digest-requires c κs = search needs
+
+squares-digest-requires : tie.Need-squares-digest-requires Inv-loop μ-loop
+squares-digest-requires c κs = search needs
+
+also-requires-2 : tie.Need-also-requires-2 Inv-loop μ-loop
+also-requires-2 c κs = search needs
+
+end-line-requires : tie.Need-end-line-requires Inv-loop μ-loop
+end-line-requires c κs = search needs
+
+add-h : tie.Need-add-h Inv-loop μ-loop
+add-h c = search needs
+
+loop-less : tie.Need-loop-less Inv-loop μ-loop
+loop-less c = search needs
+
+loop-again : tie.Need-loop-again Inv-loop μ-loop
+loop-again c = search needs
+
+returns : tie.Need-returns Inv-loop μ-loop
+returns c = search needs
+
+pub print-row-spec : {M : Type 1} → statement M
+print-row-spec =
+    tie.close
+    (tie.spec
+    Inv-loop
+    μ-loop
+    loop-holds
+    print-requires
+    cast-also
+    also-requires
+    numbers-digest-requires
+    squares-digest-requires
+    also-requires-2
+    end-line-requires
+    add-h
+    loop-less
+    loop-again
+    returns)
