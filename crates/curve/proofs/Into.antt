@@ -53,7 +53,7 @@ enters k inside before q after e i j sum below =
 
 -- the first part of a long cut has the numbers below the even half of a times b, the second the rest
 pub long-enters : (k : Block) (i : ℕ) → Inside 65535 65535 k → i < area k → choice (k .a) (k .b) ≡ LongCut → (second : Bool) → leb (even-half (k .a) * k .b) i ≡ second
-    → Enters k i (part (cond second Second First) k) (i - cond second (even-half (k .a) * k .b) 0)
+    → Enters k i (part (cond second Second First) k) (i - cond second (even-half (k .a)) 0 * k .b)
 unfolding parts-of part
 long-enters k i inside l e true t =
     let half = halves (k .a) (long-lengths k (inside .sized) e .0) in
@@ -61,7 +61,16 @@ long-enters k i inside l e true t =
     let sum = long-areas (even-half (k .a)) (k .a) (k .b) (omega arith) in
     enters k inside (part First k ∷ []) (part Second k) [] (parts-are k LongCut e) i (i - even-half (k .a) * k .b) (omega arith) (omega arith)
 long-enters k i inside l e false t =
-    enters k inside [] (part First k) (part Second k ∷ []) (parts-are k LongCut e) i (i - 0) (omega arith) (omega (arith, leb-false (even-half (k .a) * k .b) i t))
+    let to = leb-false (even-half (k .a) * k .b) i t in
+    enters k inside [] (part First k) (part Second k ∷ []) (parts-are k LongCut e) i (i - 0 * k .b) (omega arith) (omega arith)
+
+-- so what comes off a number is no more than it
+rest-by : (i e b : ℕ) (t : Bool) → leb (e * b) i ≡ t → cond t e 0 * b ≤ i
+rest-by i e b true p = leb-true (e * b) i p
+rest-by i e b false p = omega arith
+
+pub rest-of : (i e b skip : ℕ) → skip ≡ cond (leb (e * b) i) e 0 → skip * b ≤ i
+rest-of i e b skip p = subst⁻¹ (λ (n : ℕ). n * b ≤ i) p (rest-by i e b (leb (e * b) i) refl)
 
 -- a block that is not straight has lengths from 2 on, and a cut that is not long is a U cut
 pub not-straight : (k : Block) → Sized k → (choice (k .a) (k .b) ≡ StraightRun → ⊥) → (choice (k .a) (k .b) ≡ StraightSide → ⊥) → (2 ≤ k .a) × (2 ≤ k .b)

@@ -59,12 +59,12 @@ fn long_with(k: Placed, i: u32) -> Inner
     requires { ⌜ Inside 65535 65535 (block k) × (i < k .a * k .b) × (choice (k .a) (k .b) ≡ LongCut) ⌝ }
     ensures { λ r. ⌜ Enters (block k) i (block (r .part)) (r .i) ⌝ }
 {
-    let first = division::even_half(k.a) * k.b;
-    let second = first <= i;
+    let e = division::even_half(k.a);
+    let second = e * k.b <= i;
     let part = division::long_part(k, second);
     Inner {
         part: part,
-        i: i - division::either(second, first, 0),
+        i: i - division::either(second, e, 0) * k.b,
     }
 }
 

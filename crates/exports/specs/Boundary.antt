@@ -1,0 +1,15 @@
+-- What a call across the boundary returns and writes, given the figures of its answer and a slice for n values.
+use mathlib.Core.Bool.{cond}
+use mathlib.Core.List.{List, _++_}
+use Prim.Native.Nat.{ℕ}
+use lib.Dec.{leb}
+use lib.ListN.{length, drop}
+use Rattle.terms.specs.Terms.{Figures}
+
+-- The refusal's number, 0 for none, or 255 where the slice is too short.
+abbrev pub returned : (n : ℕ) → Figures → List ℕ → ℕ
+returned n f slice = cond (leb n (length slice)) (f .refusal) 255
+
+-- The values in the slice's first places and the rest as it was; a slice that is too short, whole as it was.
+abbrev pub written : (n : ℕ) → Figures → List ℕ → List ℕ
+written n f slice = cond (leb n (length slice)) (f .values ++ drop n slice) slice
