@@ -92,11 +92,27 @@ not-long k h la lb f = by (chosen k h)
     by (is-u e a b l) = e
 
 -- the parts of a U cut: A has the numbers below e·m, B the a·(b - e) after them, C the rest
-pub u-sum : (k : Block) → Inside 65535 65535 k → choice (k .a) (k .b) ≡ UCut → (e : ℕ) → e ≡ even-half (k .b)
-    → (e ≤ k .b) × (e * (k .a / 2) + (k .a * (k .b - e) + (e * (k .a - k .a / 2) + 0)) ≡ area k)
-u-sum k inside c e is =
-    let half = halves (k .b) (u-lengths k (inside .sized) c .1) in
-    (omega arith, u-areas e (k .a / 2) (k .a) (k .b) (omega arith) (omega arith))
+pub u-sum : (a b e : ℕ) → 2 ≤ b → e ≡ even-half b → e * (a / 2) + (a * (b - e) + (e * (a - a / 2) + 0)) ≡ a * b
+u-sum a b e two is = let half = halves b two in u-areas e (a / 2) a b (omega arith) (omega arith)
+
+-- the sums on the way are 32-bit numbers, where `before` numbers and the block's are
+pub record Sums (before a b e : ℕ) : Type 0 where
+  pub half : e ≤ b
+  pub in-a : e * (a / 2) < 4294967296
+  pub in-b : a * (b - e) < 4294967296
+  pub to-b : before + e * (a / 2) < 4294967296
+  pub to-c : before + e * (a / 2) + a * (b - e) < 4294967296
+
+pub sums : (before a b e : ℕ) → 2 ≤ b → e ≡ even-half b → before + a * b < 4294967296 → Sums before a b e
+sums before a b e two is room =
+    let half = halves b two in
+    let all = u-sum a b e two is in
+    record { half = omega arith; in-a = omega arith; in-b = omega arith; to-b = omega arith; to-c = omega arith }
+
+pub block-sums : (k : Block) → Inside 65535 65535 k → choice (k .a) (k .b) ≡ UCut → (e : ℕ) → e ≡ even-half (k .b) → Sums 0 (k .a) (k .b) e
+block-sums k inside c e is =
+    let all = product-limit (k .a) (k .b) (a-limit k inside) (b-limit k inside) in
+    sums 0 (k .a) (k .b) e (u-lengths k (inside .sized) c .1) is (omega arith)
 
 module _ (k : Block) (i : ℕ) (inside : Inside 65535 65535 k) (l : i < area k) (c : choice (k .a) (k .b) ≡ UCut) where
   pub a-enters : i < even-half (k .b) * (k .a / 2) → Enters k i (part A k) i
@@ -111,7 +127,7 @@ module _ (k : Block) (i : ℕ) (inside : Inside 65535 65535 k) (l : i < area k) 
   pub c-enters : even-half (k .b) * (k .a / 2) + k .a * (k .b - even-half (k .b)) ≤ i → Enters k i (part C k) (i - (even-half (k .b) * (k .a / 2) + k .a * (k .b - even-half (k .b))))
   unfolding parts-of part
   c-enters m =
-      let sum = u-sum k inside c (even-half (k .b)) refl .1 in
+      let sum = u-sum (k .a) (k .b) (even-half (k .b)) (u-lengths k (inside .sized) c .1) refl in
       enters k inside (part A k ∷ part B k ∷ []) (part C k) [] (parts-are k UCut c) i (i - (even-half (k .b) * (k .a / 2) + k .a * (k .b - even-half (k .b)))) (omega arith) (omega arith)
 
 -- a straight block's squares, as the two bits give them

@@ -1,18 +1,18 @@
 -- What the lookups' promises come to: each accepted number and square is answered, each lookup undoes the other with the same count, the count
 -- meets demand 3, an answer that meets a promise is the only one, and the wrong programs that a promise turns away.
-use mathlib.Core.Bool.{Bool, true, false, _&&_}
+use mathlib.Core.Bool.{Bool, true, false}
 use mathlib.Core.List.{List, [], _∷_}
 use mathlib.Core.Path.{_≡_, refl, sym, ap, ap₂, subst, subst⁻¹, _∙_}
-use Prim.Native.Nat.{ℕ, suc, _+_, _*_, _^_, _≤_, _<_}
+use Prim.Native.Nat.{ℕ, _*_, _^_, _≤_, _<_}
 use native.Mathlib.Omega.{arith}
 use borrow.Author.Tests.{lt-ltb, le-leb, ltb-true, ltb-false}
 use lib.Dec.{ltb, lit<, lit≤}
 use lib.ListN.{getD}
 use Rattle.terms.specs.declared.Refusal.{Refusal}
-use Rattle.terms.specs.Terms.{accepted, Figures, answered, refused, refusal-number}
+use Rattle.terms.specs.Terms.{accepted, Figures, answered}
 use Rattle.terms.proofs.Laws.{limits, refusal-one, refusal-some}
 use Rattle.division.specs.declared.Choice.the-variants.{UCut}
-use Rattle.division.specs.Division.{Square, square, whole, choice, parts-of, square-of, number-of, blocks-holding, holds}
+use Rattle.division.specs.Division.{Square, square, whole, choice, parts-of, square-of, number-of, blocks-holding}
 use Rattle.division.specs.Division.Rules.{parts-are, in-three}
 use Rattle.division.proofs.Once.{square-held, number-below, square-of-number, number-of-square}
 use Rattle.division.proofs.Blocks.{whole-inside, at-most-54, demand-3, cut-holding}
@@ -21,7 +21,7 @@ use Rattle.curve.specs.declared.SquareAnswer as SquareAnswers
 use Rattle.curve.specs.declared.NumberAnswer as NumberAnswers
 use Rattle.curve.specs.declared.FinishAnswer as FinishAnswers
 use Rattle.curve.proofs.Answers.{number-outside, square-limit, x-outside, y-outside, number-limit}
-use Rattle.curve.specs.Lookups.{square-figures, number-figures, finish-figures, number-to-square, square-to-number, finish-square}
+use Rattle.curve.specs.Lookups.{square-figures, number-figures, finish-figures, number-to-square, square-to-number}
 
 -- Every number of an accepted area has its square, and every square its number; no lookup ever meets refusal 9.
 module _ (w h : ℕ) (yes : accepted w h ≡ true) where

@@ -10,13 +10,12 @@ use Rattle.division.specs.declared.Choice.the-variants.{StraightRun, StraightSi
 use Rattle.division.specs.declared.Spot.{Spot}
 use Rattle.division.specs.Division.{square, whole, choice, even-half, First, Second, A, B, C, part, parts-of}
 use Rattle.division.specs.Division.Inside.{Sized, x-y, Inside}
-use Rattle.division.specs.Division.Rules.{halves, long-lengths, u-lengths, run-length, side-length}
+use Rattle.division.specs.Division.Rules.{long-lengths, u-lengths, run-length, side-length}
 use Rattle.division.specs.Forms.{entered}
-use Rattle.division.proofs.Cuts.{u-areas}
 use Rattle.division.proofs.Blocks.{whole-inside}
 use Rattle.division.proofs.Local.{Within, inner, Lies, in-first, in-second, in-a, in-b, in-c, squares-of, lies-smaller, lies-inside, lies-fits, area-run, area-side, area-cut}
 use Rattle.curve.specs.Descents.{number-word, spot-number, spot-blocks, Lying, Leads, Searches, search-word}
-use Rattle.curve.proofs.Into.{a-limit, b-limit}
+use Rattle.curve.proofs.Into.{a-limit, b-limit, Sums, sums}
 
 pub sized-of : (s : Spot) {before : ℕ} → Lying s before → Sized (whole (s .a) (s .b))
 unfolding whole
@@ -79,12 +78,8 @@ pub u-two : (s : Spot) (before : ℕ) → Lying s before → choice (s .a) (s .b
 unfolding whole
 u-two s before r c = u-lengths (whole (s .a) (s .b)) (sized-of s r) c
 
--- the parts' squares add up to the block's
-pub spot-sum : (s : Spot) (before : ℕ) → Lying s before → choice (s .a) (s .b) ≡ UCut → (e : ℕ) → e ≡ even-half (s .b)
-    → (e ≤ s .b) × (e * (s .a / 2) + (s .a * (s .b - e) + (e * (s .a - s .a / 2) + 0)) ≡ s .a * s .b)
-spot-sum s before r c e is =
-    let half = halves (s .b) (u-two s before r c .1) in
-    (omega arith, u-areas e (s .a / 2) (s .a) (s .b) (omega arith) (omega arith))
+pub spot-sums : (s : Spot) (before : ℕ) → Lying s before → choice (s .a) (s .b) ≡ UCut → (e : ℕ) → e ≡ even-half (s .b) → Sums before (s .a) (s .b) e
+spot-sums s before r c e is = sums before (s .a) (s .b) e (u-two s before r c .1) is (r .room)
 
 module _ (s : Spot) (before : ℕ) (r : Lying s before) (c : choice (s .a) (s .b) ≡ UCut) (e : ℕ) (half : e ≡ even-half (s .b)) (t : Spot) where
   pub a-leads : t ≡ entered A s → s .v < e → s .u < s .a / 2 → Leads s before t before

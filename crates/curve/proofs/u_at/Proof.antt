@@ -1,10 +1,9 @@
 -- `curve::u_at` meets its contract: the tests on v and u name the part, and the numbers before it are those of the parts before.
 use borrow.Author.Needs.{needs}
 use Prim.Native.Nat.{ℕ}
-use native.Mathlib.Omega.{arith}
 use mathlib.Core.Path.{subst}
 use Prim.Native.Nat.{_≤_}
-use Rattle.curve.proofs.Toward.{u-two, spot-sum, a-leads, b-leads, c-leads}
+use Rattle.curve.proofs.Toward.{u-two, spot-sums, a-leads, b-leads, c-leads}
 use Rattle.curve.proofs.u_at.Statement.{statement}
 use Rattle.curve.proofs.u_at.Tie as tie
 
@@ -12,25 +11,13 @@ even-half-requires : tie.Need-even-half-requires
 even-half-requires c κs = search needs
 
 mul-in-a : tie.Need-mul-in-a
-mul-in-a c =
-    let s = c .before .before .args .s in
-    let r = c .before .before .pre .0 in
-    let e = c .before .even-half in
-    let sum = spot-sum s (c .before .before .args .before) r (c .before .before .pre .1) (e .result) (e .ensures) in
-    let room = r .room in
-    record { fits = omega arith }
+mul-in-a c = record { fits = spot-sums (c .before .before .args .s) (c .before .before .args .before) (c .before .before .pre .0) (c .before .before .pre .1) (c .before .even-half .result) (c .before .even-half .ensures) .in-a }
 
 in-b-requires : tie.Need-in-b-requires
 in-b-requires c κs = (u-two (c .before .before .before .before .args .s) (c .before .before .before .before .args .before) (c .before .before .before .before .pre .0) (c .before .before .before .before .pre .1) .1, subst (λ (n : ℕ). n ≤ c .before .before .before .before .args .s .v) (c .before .before .before .even-half .ensures) (c .if1 .taken))
 
 add-t10 : tie.Need-add-t10
-add-t10 c =
-    let s = c .before .before .before .before .before .args .s in
-    let r = c .before .before .before .before .before .pre .0 in
-    let e = c .before .before .before .before .even-half in
-    let sum = spot-sum s (c .before .before .before .before .before .args .before) r (c .before .before .before .before .before .pre .1) (e .result) (e .ensures) in
-    let room = r .room in
-    record { fits = omega arith }
+add-t10 c = record { fits = spot-sums (c .before .before .before .before .before .args .s) (c .before .before .before .before .before .args .before) (c .before .before .before .before .before .pre .0) (c .before .before .before .before .before .pre .1) (c .before .before .before .before .even-half .result) (c .before .before .before .before .even-half .ensures) .to-b }
 
 returns : tie.Need-returns
 returns c = b-leads (c .before .before .before .before .before .args .s) (c .before .before .before .before .before .args .before) (c .before .before .before .before .before .pre .0) (c .before .before .before .before .before .pre .1) (c .before .before .before .before .even-half .result) (c .before .before .before .before .even-half .ensures) (c .in-b .result) (c .in-b .ensures) (c .before .if1 .taken)
@@ -45,34 +32,16 @@ in-c-requires : tie.Need-in-c-requires
 in-c-requires c κs = search needs
 
 add-t8 : tie.Need-add-t8
-add-t8 c =
-    let s = c .before .before .before .before .before .before .before .before .args .s in
-    let r = c .before .before .before .before .before .before .before .before .pre .0 in
-    let e = c .before .before .before .before .before .before .before .even-half in
-    let sum = spot-sum s (c .before .before .before .before .before .before .before .before .args .before) r (c .before .before .before .before .before .before .before .before .pre .1) (e .result) (e .ensures) in
-    let room = r .room in
-    record { fits = omega arith }
+add-t8 c = record { fits = spot-sums (c .before .before .before .before .before .before .before .before .args .s) (c .before .before .before .before .before .before .before .before .args .before) (c .before .before .before .before .before .before .before .before .pre .0) (c .before .before .before .before .before .before .before .before .pre .1) (c .before .before .before .before .before .before .before .even-half .result) (c .before .before .before .before .before .before .before .even-half .ensures) .to-b }
 
 sub-t11 : tie.Need-sub-t11
-sub-t11 c = spot-sum (c .before .before .before .before .before .before .before .before .before .args .s) (c .before .before .before .before .before .before .before .before .before .args .before) (c .before .before .before .before .before .before .before .before .before .pre .0) (c .before .before .before .before .before .before .before .before .before .pre .1) (c .before .before .before .before .before .before .before .before .even-half .result) (c .before .before .before .before .before .before .before .before .even-half .ensures) .0
+sub-t11 c = spot-sums (c .before .before .before .before .before .before .before .before .before .args .s) (c .before .before .before .before .before .before .before .before .before .args .before) (c .before .before .before .before .before .before .before .before .before .pre .0) (c .before .before .before .before .before .before .before .before .before .pre .1) (c .before .before .before .before .before .before .before .before .even-half .result) (c .before .before .before .before .before .before .before .before .even-half .ensures) .half
 
 mul-t12 : tie.Need-mul-t12
-mul-t12 c =
-    let s = c .before .before .before .before .before .before .before .before .before .before .args .s in
-    let r = c .before .before .before .before .before .before .before .before .before .before .pre .0 in
-    let e = c .before .before .before .before .before .before .before .before .before .even-half in
-    let sum = spot-sum s (c .before .before .before .before .before .before .before .before .before .before .args .before) r (c .before .before .before .before .before .before .before .before .before .before .pre .1) (e .result) (e .ensures) in
-    let room = r .room in
-    record { fits = omega arith }
+mul-t12 c = record { fits = spot-sums (c .before .before .before .before .before .before .before .before .before .before .args .s) (c .before .before .before .before .before .before .before .before .before .before .args .before) (c .before .before .before .before .before .before .before .before .before .before .pre .0) (c .before .before .before .before .before .before .before .before .before .before .pre .1) (c .before .before .before .before .before .before .before .before .before .even-half .result) (c .before .before .before .before .before .before .before .before .before .even-half .ensures) .in-b }
 
 add-t13 : tie.Need-add-t13
-add-t13 c =
-    let s = c .before .before .before .before .before .before .before .before .before .before .args .s in
-    let r = c .before .before .before .before .before .before .before .before .before .before .pre .0 in
-    let e = c .before .before .before .before .before .before .before .before .before .even-half in
-    let sum = spot-sum s (c .before .before .before .before .before .before .before .before .before .before .args .before) r (c .before .before .before .before .before .before .before .before .before .before .pre .1) (e .result) (e .ensures) in
-    let room = r .room in
-    record { fits = omega arith }
+add-t13 c = record { fits = spot-sums (c .before .before .before .before .before .before .before .before .before .before .args .s) (c .before .before .before .before .before .before .before .before .before .before .args .before) (c .before .before .before .before .before .before .before .before .before .before .pre .0) (c .before .before .before .before .before .before .before .before .before .before .pre .1) (c .before .before .before .before .before .before .before .before .before .even-half .result) (c .before .before .before .before .before .before .before .before .before .even-half .ensures) .to-c }
 
 returns-3 : tie.Need-returns-3
 returns-3 c = c-leads (c .before .before .before .before .before .before .before .before .before .before .args .s) (c .before .before .before .before .before .before .before .before .before .before .args .before) (c .before .before .before .before .before .before .before .before .before .before .pre .0) (c .before .before .before .before .before .before .before .before .before .before .pre .1) (c .before .before .before .before .before .before .before .before .before .even-half .result) (c .before .before .before .before .before .before .before .before .before .even-half .ensures) (c .before .before .in-c .result) (c .before .before .in-c .ensures) (c .before .before .before .before .before .before .if1 .left) (c .before .before .before .if2 .left)

@@ -6,7 +6,7 @@ use native.Mathlib.Omega.{arith}
 use Rattle.division.specs.Division.{Block, B, C, part}
 use Rattle.division.specs.Forms.{block}
 use Rattle.curve.specs.Descents.{Enters}
-use Rattle.curve.proofs.Into.{a-limit, b-limit, product-limit, u-sum, a-enters, b-enters, c-enters}
+use Rattle.curve.proofs.Into.{block-sums, a-enters, b-enters, c-enters}
 use Rattle.curve.proofs.u_with.Statement.{statement}
 use Rattle.curve.proofs.u_with.Tie as tie
 
@@ -14,12 +14,7 @@ even-half-requires : tie.Need-even-half-requires
 even-half-requires c κs = search needs
 
 mul-to-b : tie.Need-mul-to-b
-mul-to-b c =
-    let k = c .before .before .args .k in
-    let inside = c .before .before .pre .0 in
-    let sum = u-sum (block k) inside (c .before .before .pre .2) (c .before .even-half .result) (c .before .even-half .ensures) in
-    let all = product-limit (k .a) (k .b) (a-limit (block k) inside) (b-limit (block k) inside) in
-    record { fits = omega arith }
+mul-to-b c = record { fits = block-sums (block (c .before .before .args .k)) (c .before .before .pre .0) (c .before .before .pre .2) (c .before .even-half .result) (c .before .even-half .ensures) .in-a }
 
 part-a-requires : tie.Need-part-a-requires
 part-a-requires c κs = search needs
@@ -33,23 +28,13 @@ returns c =
     (a-enters (block k) (start .args .i) (start .pre .0) (start .pre .1) (start .pre .2) (subst (λ (n : ℕ). start .args .i < n * (k .a / 2)) (e .ensures) (c .before .if1 .taken)))
 
 sub-to-c : tie.Need-sub-to-c
-sub-to-c c = u-sum (block (c .before .before .before .before .args .k)) (c .before .before .before .before .pre .0) (c .before .before .before .before .pre .2) (c .before .before .before .even-half .result) (c .before .before .before .even-half .ensures) .0
+sub-to-c c = block-sums (block (c .before .before .before .before .args .k)) (c .before .before .before .before .pre .0) (c .before .before .before .before .pre .2) (c .before .before .before .even-half .result) (c .before .before .before .even-half .ensures) .half
 
 mul-to-c : tie.Need-mul-to-c
-mul-to-c c =
-    let k = c .before .before .before .before .before .args .k in
-    let inside = c .before .before .before .before .before .pre .0 in
-    let sum = u-sum (block k) inside (c .before .before .before .before .before .pre .2) (c .before .before .before .before .even-half .result) (c .before .before .before .before .even-half .ensures) in
-    let all = product-limit (k .a) (k .b) (a-limit (block k) inside) (b-limit (block k) inside) in
-    record { fits = omega arith }
+mul-to-c c = record { fits = block-sums (block (c .before .before .before .before .before .args .k)) (c .before .before .before .before .before .pre .0) (c .before .before .before .before .before .pre .2) (c .before .before .before .before .even-half .result) (c .before .before .before .before .even-half .ensures) .in-b }
 
 add-to-c : tie.Need-add-to-c
-add-to-c c =
-    let k = c .before .before .before .before .before .args .k in
-    let inside = c .before .before .before .before .before .pre .0 in
-    let sum = u-sum (block k) inside (c .before .before .before .before .before .pre .2) (c .before .before .before .before .even-half .result) (c .before .before .before .before .even-half .ensures) in
-    let all = product-limit (k .a) (k .b) (a-limit (block k) inside) (b-limit (block k) inside) in
-    record { fits = omega arith }
+add-to-c c = let to = block-sums (block (c .before .before .before .before .before .args .k)) (c .before .before .before .before .before .pre .0) (c .before .before .before .before .before .pre .2) (c .before .before .before .before .even-half .result) (c .before .before .before .before .even-half .ensures) .to-c in omega arith
 
 part-b-requires : tie.Need-part-b-requires
 part-b-requires c κs = search needs
