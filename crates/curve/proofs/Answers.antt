@@ -13,9 +13,9 @@ use Rattle.division.specs.Division.Inside.{x-y, Inside}
 use Rattle.division.proofs.Once.{square-held, number-below}
 use Rattle.division.proofs.Blocks.{whole-inside, at-most-54}
 use Rattle.division.proofs.Local.{Within, whole-holds, whole-within}
+use Rattle.division.proofs.Walks.{product-limit}
 use Rattle.curve.specs.Descents.{block-at, spot-at, Descends, descent-word, Searches, search-word}
 use Rattle.curve.specs.Lookups.{number-to-square, square-to-number, finish-square}
-use Rattle.curve.proofs.Into.{product-limit}
 
 -- a word's parts
 word-x : (x y k : ℕ) → y < 65536 → k < 256 → ((x * 65536 + y) * 256 + k) / 16777216 ≡ x

@@ -1,40 +1,24 @@
 -- One step of a descent: the part that has a number, with the rest of it. One law over the part, and for each cut which part it is.
-use mathlib.Core.Bool.{Bool, true, false, not, cond}
+use mathlib.Core.Bool.{Bool, true, false, cond}
 use mathlib.Core.List.{List, [], _∷_, _++_}
 use mathlib.Core.Path.{_≡_, refl, sym, ap, ap₂, subst, subst⁻¹, _∙_}
 use Prim.Native.Nat.{ℕ, suc, _+_, _-_, _*_, _/_, _≤_, _<_}
-use native.Mathlib.Nat.{mul-one, one-mul, mul-le-mul}
+use native.Mathlib.Nat.{mul-one, one-mul}
 use native.Mathlib.Omega.{arith}
 use borrow.Author.Tests.{leb-true, leb-false}
 use lib.Dec.{leb}
 use Rattle.division.specs.declared.Choice.the-variants.{StraightRun, StraightSide, LongCut, UCut}
 use Rattle.division.specs.declared.Placed.{Placed}
-use Rattle.division.specs.Division.{Direction, +x, +y, -x, -y, Square, square, moved, Block, choice, even-half, First, Second, A, B, C, part, parts, parts-of, square-of, blocks-holding}
-use Rattle.division.specs.Division.Inside.{Sized, Room, Inside}
+use Rattle.division.specs.Division.{Square, square, moved, Block, choice, even-half, First, Second, A, B, C, part, parts, parts-of, square-of, blocks-holding}
+use Rattle.division.specs.Division.Inside.{Sized, Inside}
 use Rattle.division.specs.Division.Rules.{All, Chosen, is-run, is-side, is-long, is-u, chosen, Smaller, smaller, parts-are, halves, long-lengths, u-lengths, run-length, side-length, rule}
-use Rattle.division.specs.Forms.{direction, block, stepped-to}
+use Rattle.division.specs.Forms.{block, stepped-to}
 use Rattle.division.proofs.Sums.{total, all-right}
-use Rattle.division.proofs.Cuts.{area, long-areas, u-areas}
+use Rattle.division.proofs.Cuts.{area, long-areas}
 use Rattle.division.proofs.Once.{square-held}
 use Rattle.division.proofs.Descent.{part-inside, square-in, holding-in, straight-holding, run-square, side-square}
+use Rattle.division.proofs.Walks.{a-limit, b-limit, product-limit, u-sum, Sums, sums, run-moved, side-moved}
 use Rattle.curve.specs.Descents.{square-word, Enters, Descends, descent-word}
-
--- a block within 65,535 by 65,535 has lengths up to that
-room-limit : (d : Direction) (n : ℕ) (s : Square) → Room 65535 65535 d n s → n ≤ 65535
-room-limit +x n s r = omega arith
-room-limit +y n s r = omega arith
-room-limit -x n s r = omega arith
-room-limit -y n s r = omega arith
-
-pub a-limit : (k : Block) → Inside 65535 65535 k → k .a ≤ 65535
-a-limit k i = room-limit (k .run) (k .a) (k .start) (i .run)
-
-pub b-limit : (k : Block) → Inside 65535 65535 k → k .b ≤ 65535
-b-limit k i = room-limit (k .side) (k .b) (k .start) (i .side)
-
--- the squares of lengths up to 65,535 are a 32-bit number
-pub product-limit : (a b : ℕ) → a ≤ 65535 → b ≤ 65535 → a * b < 4294967296
-product-limit a b l m = let p : a * b ≤ 65535 * 65535 = mul-le-mul l m in omega arith
 
 enters : (k : Block) → Inside 65535 65535 k → (before : List Block) (q : Block) (after : List Block) → parts k ≡ before ++ (q ∷ after)
     → (i j : ℕ) → total area before + j ≡ i → j < area q → Enters k i q j
@@ -92,23 +76,6 @@ not-long k h la lb f = by (chosen k h)
     by (is-u e a b l) = e
 
 -- the parts of a U cut: A has the numbers below e·m, B the a·(b - e) after them, C the rest
-pub u-sum : (a b e : ℕ) → 2 ≤ b → e ≡ even-half b → e * (a / 2) + (a * (b - e) + (e * (a - a / 2) + 0)) ≡ a * b
-u-sum a b e two is = let half = halves b two in u-areas e (a / 2) a b (omega arith) (omega arith)
-
--- the sums on the way are 32-bit numbers, where `before` numbers and the block's are
-pub record Sums (before a b e : ℕ) : Type 0 where
-  pub half : e ≤ b
-  pub in-a : e * (a / 2) < 4294967296
-  pub in-b : a * (b - e) < 4294967296
-  pub to-b : before + e * (a / 2) < 4294967296
-  pub to-c : before + e * (a / 2) + a * (b - e) < 4294967296
-
-pub sums : (before a b e : ℕ) → 2 ≤ b → e ≡ even-half b → before + a * b < 4294967296 → Sums before a b e
-sums before a b e two is room =
-    let half = halves b two in
-    let all = u-sum a b e two is in
-    record { half = omega arith; in-a = omega arith; in-b = omega arith; to-b = omega arith; to-c = omega arith }
-
 pub block-sums : (k : Block) → Inside 65535 65535 k → choice (k .a) (k .b) ≡ UCut → (e : ℕ) → e ≡ even-half (k .b) → Sums 0 (k .a) (k .b) e
 block-sums k inside c e is =
     let all = product-limit (k .a) (k .b) (a-limit k inside) (b-limit k inside) in
@@ -131,24 +98,6 @@ module _ (k : Block) (i : ℕ) (inside : Inside 65535 65535 k) (l : i < area k) 
       enters k inside (part A k ∷ part B k ∷ []) (part C k) [] (parts-are k UCut c) i (i - (even-half (k .b) * (k .a / 2) + k .a * (k .b - even-half (k .b)))) (omega arith) (omega arith)
 
 -- a straight block's squares, as the two bits give them
-run-moved : (along across : ℕ) (turned back : Bool) (i : ℕ)
-    → cond turned (square across (stepped-to along i back)) (square (stepped-to along i back) across)
-    ≡ moved (direction turned back) i (cond turned (square across along) (square along across))
-unfolding moved
-run-moved along across false false i = refl
-run-moved along across false true i = refl
-run-moved along across true false i = refl
-run-moved along across true true i = refl
-
-side-moved : (along across : ℕ) (turned back : Bool) (i : ℕ)
-    → cond turned (square (stepped-to across i back) along) (square along (stepped-to across i back))
-    ≡ moved (direction (not turned) back) i (cond turned (square across along) (square along across))
-unfolding moved
-side-moved along across false false i = refl
-side-moved along across false true i = refl
-side-moved along across true false i = refl
-side-moved along across true true i = refl
-
 pub run-stepped : (k : Placed) (i there blocks : ℕ) → there ≡ stepped-to (k .along) i (k .back)
     → square-word (cond (k .turned) (square (k .across) there) (square there (k .across))) blocks ≡ square-word (moved (block k .run) i (block k .start)) blocks
 run-stepped k i there blocks e =

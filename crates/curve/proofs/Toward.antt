@@ -14,8 +14,8 @@ use Rattle.division.specs.Division.Rules.{long-lengths, u-lengths, run-length, 
 use Rattle.division.specs.Forms.{entered}
 use Rattle.division.proofs.Blocks.{whole-inside}
 use Rattle.division.proofs.Local.{Within, inner, Lies, in-first, in-second, in-a, in-b, in-c, squares-of, lies-smaller, lies-inside, lies-fits, area-run, area-side, area-cut}
+use Rattle.division.proofs.Walks.{a-limit, b-limit, Sums, sums}
 use Rattle.curve.specs.Descents.{number-word, spot-number, spot-blocks, Lying, Leads, Searches, search-word}
-use Rattle.curve.proofs.Into.{a-limit, b-limit, Sums, sums}
 
 pub sized-of : (s : Spot) {before : ℕ} → Lying s before → Sized (whole (s .a) (s .b))
 unfolding whole

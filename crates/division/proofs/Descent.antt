@@ -116,12 +116,18 @@ module _ (w h : ℕ) (k : Block) (i : Inside w h k) (before : List Block) (q : B
         omega arith
 
 -- a straight block: its squares follow in its run or in its side, and it alone holds them
-row-at : (d : Direction) (n m : ℕ) (s z : Square) → m < n → getD (row d n s) m z ≡ moved d m s
+pub row-at : (d : Direction) (n m : ℕ) (s z : Square) → m < n → getD (row d n s) m z ≡ moved d m s
 unfolding row
 row-at d zero m s z l = absurd (omega arith)
 row-at d (suc n) zero s z l = sym (moved-none d s)
 row-at d (suc n) (suc m) s z l =
     row-at d n m (moved d 1 s) z (le-of-suc-le-suc l) ∙ moved-add d 1 m s ∙ ap (λ n. moved d n s) (one-add m)
+
+-- one square more at a row's end
+pub row-more : (d : Direction) (n : ℕ) (s : Square) → row d (suc n) s ≡ row d n s ++ (moved d n s ∷ [])
+unfolding row
+row-more d zero s = ap (λ (p : Square). p ∷ []) (sym (moved-none d s))
+row-more d (suc n) s = ap (λ zs. s ∷ zs) (row-more d n (moved d 1 s) ∙ ap (λ (p : Square). row d n (moved d 1 s) ++ (p ∷ [])) (moved-add d 1 n s ∙ ap (λ m. moved d m s) (one-add n)))
 
 pub straight-holding : (k : Block) (p : Square) → Sized k → parts k ≡ [] → holds k p ≡ true → blocks-holding k p ≡ 1
 straight-holding k p s e held = holding-rule k p s ∙ rw (e, held)

@@ -12,8 +12,8 @@ use lib.Dec.{leb, ltb}
 use lib.ListN.{length, getD, length-map}
 use lib.Seq.{ext-getD}
 use Rattle.division.specs.declared.Choice.the-variants.{StraightRun, StraightSide, LongCut, UCut}
-use Rattle.division.specs.Division.{Square, square, Block, whole, choice, even-half, Part, First, Second, A, B, C, part, parts, parts-of, moved, against, within, holds, curve, blocks-holding, square-of, number-of}
-use Rattle.division.specs.Division.Inside.{Sized, Inside}
+use Rattle.division.specs.Division.{Square, square, Direction, Block, whole, choice, even-half, Part, First, Second, A, B, C, part, parts, parts-of, moved, against, within, holds, curve, blocks-holding, square-of, number-of}
+use Rattle.division.specs.Division.Inside.{Sized, Paired, x-y, y-x, x-y-back, y-x-back, Room, Inside}
 use Rattle.division.specs.Division.Rules.{All, halves, induction, Chosen, is-run, is-side, is-long, is-u, chosen, parts-are, rule, Smaller, smaller}
 use Rattle.division.proofs.Plane.{turned, moved-add, moved-swap, moved-back, moved-none, room-across, room-first, within-moved, within-aside}
 use Rattle.division.proofs.Sums.{total, all-right}
@@ -78,6 +78,19 @@ module _ (w h : ℕ) (k : Block) (i : Inside w h k) where
       ∙ moved-swap (turned (i .paired)) (e - 1 - s .x) (k .a - 1) (k .start))
       ∙ moved-back w h (k .run) (k .a) (s .y) up (room-across w h (i .paired) (e - 1 - s .x) (k .a) (k .start) (i .run)) (omega arith)
       ∙ moved-swap (i .paired) (k .a - 1 - s .y) (e - 1 - s .x) (k .start)
+
+-- what lies within the lengths of a block lies within the area that the block lies in
+spot-inside-by : (w h : ℕ) {d t : Direction} → Paired d t → (a b : ℕ) (start s : Square) → Room w h d a start → Room w h t b start → Within a b s
+    → Within w h (moved t (s .y) (moved d (s .x) start))
+unfolding moved
+spot-inside-by w h x-y a b start s r q l = let u = l .run in let v = l .side in record { run = omega arith; side = omega arith }
+spot-inside-by w h y-x a b start s r q l = let u = l .run in let v = l .side in record { run = omega arith; side = omega arith }
+spot-inside-by w h x-y-back a b start s r q l = let u = l .run in let v = l .side in record { run = omega arith; side = omega arith }
+spot-inside-by w h y-x-back a b start s r q l = let u = l .run in let v = l .side in record { run = omega arith; side = omega arith }
+
+pub spot-inside : (w h : ℕ) (k : Block) → Inside w h k → (s : Square) → Within (k .a) (k .b) s → Within w h (spot k s)
+unfolding spot
+spot-inside w h k i s l = spot-inside-by w h (i .paired) (k .a) (k .b) (k .start) s (i .run) (i .side) l
 
 -- the part of an a by b block that (u, v) lies in, with (u, v) as that part has it
 pub record Lies (a b : ℕ) (s : Square) : Type 0 where
@@ -317,7 +330,7 @@ whole-within a b s e =
     let v = ltb-true (s .y) (0 + b) (and-eq-true-iff (leb 0 (s .y)) (ltb (s .y) (0 + b)) .0 (x .1) .1) in
     record { run = omega arith; side = omega arith }
 
-getD-map-in : (f : Square → Square) (zs : List Square) (n : ℕ) (d z : Square) → n < length zs → getD (map f zs) n d ≡ f (getD zs n z)
+pub getD-map-in : {X : Type 0} (f : Square → X) (zs : List Square) (n : ℕ) (d : X) (z : Square) → n < length zs → getD (map f zs) n d ≡ f (getD zs n z)
 getD-map-in f [] n d z l = absurd (omega arith)
 getD-map-in f (x ∷ zs) zero d z l = refl
 getD-map-in f (x ∷ zs) (suc n) d z l = getD-map-in f zs n d z (le-of-suc-le-suc l)

@@ -2,16 +2,18 @@
 -- placed block and of a spot, by the two bits.
 use mathlib.Core.Bool.{Bool, true, false, not, cond}
 use mathlib.Core.Path.{_≡_, refl, ap, ap₂, subst⁻¹, _∙_}
-use Prim.Native.Nat.{ℕ, _+_, _-_, _/_, _%_, _≤_, _<_}
-use native.Mathlib.Nat.{add-zero, sub-zero}
+use Prim.Native.Nat.{ℕ, _+_, _-_, _*_, _/_, _%_, _≤_, _<_}
+use native.Mathlib.Nat.{add-zero, sub-zero, mul-le-mul}
 use native.Mathlib.Omega.{arith}
 use borrow.Author.Tests.{lt-ltb, le-ltb, eqb-true, eqb-false, ltb-false}
 use lib.Dec.{ltb, eqb}
 use Rattle.division.specs.declared.Placed.{Placed}
 use Rattle.division.specs.declared.Spot.{Spot}
-use Rattle.division.specs.Division.{square, even-half, First, Second, A, B, C, part, moved, against}
+use Rattle.division.specs.Division.{Square, square, Direction, +x, +y, -x, -y, Block, even-half, First, Second, A, B, C, part, moved, against}
 use Rattle.division.specs.Division.Inside.{Room, Inside}
+use Rattle.division.specs.Division.Rules.{halves}
 use Rattle.division.specs.Forms.{direction, block, stepped-to, Steps, entered}
+use Rattle.division.proofs.Cuts.{u-areas}
 
 -- the even half of a small length, and of a large one
 pub half-small : (L : ℕ) → L ≤ 2 → L / 2 ≡ even-half L
@@ -128,3 +130,73 @@ skip-by u e false p = ltb-false u e p
 
 pub skip-within : (u e skip : ℕ) → skip ≡ cond (ltb u e) 0 e → skip ≤ u
 skip-within u e skip p = subst⁻¹ (λ (n : ℕ). n ≤ u) p (skip-by u e (ltb u e) refl)
+
+-- a square n steps along the run, or along the side, of a placed block
+pub run-moved : (along across : ℕ) (turned back : Bool) (n : ℕ)
+    → cond turned (square across (stepped-to along n back)) (square (stepped-to along n back) across)
+    ≡ moved (direction turned back) n (cond turned (square across along) (square along across))
+unfolding moved
+run-moved along across false false n = refl
+run-moved along across false true n = refl
+run-moved along across true false n = refl
+run-moved along across true true n = refl
+
+pub side-moved : (along across : ℕ) (turned back : Bool) (n : ℕ)
+    → cond turned (square (stepped-to across n back) along) (square along (stepped-to across n back))
+    ≡ moved (direction (not turned) back) n (cond turned (square across along) (square along across))
+unfolding moved
+side-moved along across false false n = refl
+side-moved along across false true n = refl
+side-moved along across true false n = refl
+side-moved along across true true n = refl
+
+-- what lies within an area lies within a larger one
+room-grow : (w h w′ h′ : ℕ) → w ≤ w′ → h ≤ h′ → (d : Direction) (n : ℕ) (s : Square) → Room w h d n s → Room w′ h′ d n s
+room-grow w h w′ h′ l m +x n s r = omega arith
+room-grow w h w′ h′ l m +y n s r = omega arith
+room-grow w h w′ h′ l m -x n s r = omega arith
+room-grow w h w′ h′ l m -y n s r = omega arith
+
+pub inside-grow : (w h w′ h′ : ℕ) → w ≤ w′ → h ≤ h′ → (k : Block) → Inside w h k → Inside w′ h′ k
+inside-grow w h w′ h′ l m k i =
+    record {
+      sized = i .sized;
+      paired = i .paired;
+      run = room-grow w h w′ h′ l m (k .run) (k .a) (k .start) (i .run);
+      side = room-grow w h w′ h′ l m (k .side) (k .b) (k .start) (i .side);
+    }
+
+-- a block within 65,535 by 65,535 has lengths up to that
+room-limit : (d : Direction) (n : ℕ) (s : Square) → Room 65535 65535 d n s → n ≤ 65535
+room-limit +x n s r = omega arith
+room-limit +y n s r = omega arith
+room-limit -x n s r = omega arith
+room-limit -y n s r = omega arith
+
+pub a-limit : (k : Block) → Inside 65535 65535 k → k .a ≤ 65535
+a-limit k i = room-limit (k .run) (k .a) (k .start) (i .run)
+
+pub b-limit : (k : Block) → Inside 65535 65535 k → k .b ≤ 65535
+b-limit k i = room-limit (k .side) (k .b) (k .start) (i .side)
+
+-- the squares of lengths up to 65,535 are a 32-bit number
+pub product-limit : (a b : ℕ) → a ≤ 65535 → b ≤ 65535 → a * b < 4294967296
+product-limit a b l m = let p : a * b ≤ 65535 * 65535 = mul-le-mul l m in omega arith
+
+-- the parts of a U cut add up to the block
+pub u-sum : (a b e : ℕ) → 2 ≤ b → e ≡ even-half b → e * (a / 2) + (a * (b - e) + (e * (a - a / 2) + 0)) ≡ a * b
+u-sum a b e two is = let half = halves b two in u-areas e (a / 2) a b (omega arith) (omega arith)
+
+-- the sums on the way are 32-bit numbers, where `before` numbers and the block's are
+pub record Sums (before a b e : ℕ) : Type 0 where
+  pub half : e ≤ b
+  pub in-a : e * (a / 2) < 4294967296
+  pub in-b : a * (b - e) < 4294967296
+  pub to-b : before + e * (a / 2) < 4294967296
+  pub to-c : before + e * (a / 2) + a * (b - e) < 4294967296
+
+pub sums : (before a b e : ℕ) → 2 ≤ b → e ≡ even-half b → before + a * b < 4294967296 → Sums before a b e
+sums before a b e two is room =
+    let half = halves b two in
+    let all = u-sum a b e two is in
+    record { half = omega arith; in-a = omega arith; in-b = omega arith; to-b = omega arith; to-c = omega arith }

@@ -7,8 +7,8 @@ use Prim.Native.Nat.{ℕ, _*_, _<_}
 use native.Mathlib.Omega.{arith}
 use Rattle.division.specs.declared.Placed.{Placed}
 use Rattle.division.specs.Forms.{block}
-use Rattle.division.proofs.Walks.{steps-along, steps-across}
-use Rattle.curve.proofs.Into.{a-limit, b-limit, not-straight, run-below, run-count, run-word, side-below, side-count, side-word, next-descent, next-count, next-word}
+use Rattle.division.proofs.Walks.{a-limit, b-limit, steps-along, steps-across}
+use Rattle.curve.proofs.Into.{not-straight, run-below, run-count, run-word, side-below, side-count, side-word, next-descent, next-count, next-word}
 use borrow.Fn.Kinds.{In}
 use borrow.Fn.PlainCycle.{Measures, is, falls, and}
 use Rattle.curve.proofs.descend.Reads as descend

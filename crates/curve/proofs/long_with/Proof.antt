@@ -8,8 +8,9 @@ use lib.Dec.{leb}
 use Rattle.division.specs.Division.{Block, even-half, First, Second, part}
 use Rattle.division.specs.Division.Rules.{halves, long-lengths}
 use Rattle.division.specs.Forms.{block}
+use Rattle.division.proofs.Walks.{a-limit, b-limit, product-limit}
 use Rattle.curve.specs.Descents.{Enters}
-use Rattle.curve.proofs.Into.{a-limit, b-limit, product-limit, rest-of, long-enters}
+use Rattle.curve.proofs.Into.{rest-of, long-enters}
 use Rattle.curve.proofs.long_with.Statement.{statement}
 use Rattle.curve.proofs.long_with.Tie as tie
 

@@ -1,0 +1,97 @@
+-- Entries in a table: those of two lists in a row are those of the lists joined, and a block's places lie in its area's table.
+use mathlib.Core.Bool.{Bool, cond}
+use mathlib.Core.List.{List, [], _∷_, _++_, map, map-append}
+use mathlib.Core.Path.{_≡_, refl, sym, ap, subst, _∙_}
+use Prim.Native.Nat.{ℕ, zero, suc, _+_, _*_, _≤_, _<_}
+use native.Mathlib.Nat.{add-zero, add-suc, suc-add, suc-mul, mul-comm, mul-one, mul-le-mul, mul-le-mul-right}
+use native.Mathlib.Omega.{arith}
+use lib.ListN.{length, length-set, length-map}
+use Rattle.division.specs.declared.Choice.the-variants.{StraightRun}
+use Rattle.division.specs.declared.Placed.{Placed}
+use Rattle.division.specs.Division.{Square, square, Direction, choice, moved, row, blocks}
+use Rattle.division.specs.Division.Inside.{Inside}
+use Rattle.division.specs.Division.Rules.{rule, run-length}
+use Rattle.division.specs.Forms.{block, stepped-to}
+use Rattle.division.proofs.Plane.{moved-none}
+use Rattle.division.proofs.Descent.{row-more}
+use Rattle.division.proofs.Local.{Within, spot, spot-inside}
+use Rattle.division.proofs.Walks.{run-moved, inside-grow}
+use Rattle.tables.specs.Walk.{place, entered, entered-all, walked, Fills}
+
+pub entered-length : (by-square : Bool) (t : List ℕ) (n : ℕ) (ps : List ℕ) → length (entered-all by-square t n ps) ≡ length t
+unfolding entered-all
+entered-length by-square t n [] = refl
+entered-length by-square t n (p ∷ ps) = entered-length by-square (entered by-square t n p) (suc n) ps ∙ length-set t (cond by-square p n) (cond by-square n p)
+
+pub entered-append : (by-square : Bool) (t : List ℕ) (n : ℕ) (ps qs : List ℕ)
+    → entered-all by-square t n (ps ++ qs) ≡ entered-all by-square (entered-all by-square t n ps) (n + length ps) qs
+unfolding entered-all
+entered-append by-square t n [] qs = ap (λ m. entered-all by-square t m qs) (sym (add-zero n))
+entered-append by-square t n (p ∷ ps) qs =
+    entered-append by-square (entered by-square t n p) (suc n) ps qs
+    ∙ ap (λ m. entered-all by-square (entered-all by-square (entered by-square t n p) (suc n) ps) m qs) (suc-add n (length ps) ∙ sym (add-suc n (length ps)))
+
+row-count : (d : Direction) (n : ℕ) (s : Square) → length (row d n s) ≡ n
+unfolding row
+row-count d zero s = refl
+row-count d (suc n) s = ap suc (row-count d n (moved d 1 s))
+
+-- one square of a row more
+pub row-entered : (by-square : Bool) (w : ℕ) (t : List ℕ) (at : ℕ) (d : Direction) (i : ℕ) (s : Square)
+    → entered-all by-square t at (map (place w) (row d (suc i) s))
+    ≡ entered by-square (entered-all by-square t at (map (place w) (row d i s))) (at + i) (place w (moved d i s))
+unfolding entered-all
+row-entered by-square w t at d i s =
+    ap (λ zs. entered-all by-square t at (map (place w) zs)) (row-more d i s)
+    ∙ ap (entered-all by-square t at) (map-append (place w) (row d i s) (moved d i s ∷ []))
+    ∙ entered-append by-square t at (map (place w) (row d i s)) (place w (moved d i s) ∷ [])
+    ∙ ap (λ m. entered by-square (entered-all by-square t at (map (place w) (row d i s))) (at + m) (place w (moved d i s))) (length-map (row d i s) (place w) ∙ row-count d i s)
+
+-- a square of the area has its place in the table
+pub place-below : (w h : ℕ) (s : Square) → Within w h s → place w s < w * h
+place-below w h s l =
+    let rows : suc (s .y) * w ≤ h * w = mul-le-mul-right w (l .side) in
+    let more : suc (s .y) * w ≡ s .y * w + w = suc-mul (s .y) w in
+    let x = l .run in
+    omega (arith, mul-comm w h)
+
+-- What a fill knows of its block.
+module _ (k : Placed) {w h : ℕ} {t : List ℕ} {at : ℕ} (f : Fills w h t (block k) at) where
+  pub largest : Inside 65535 65535 (block k)
+  largest = inside-grow w h 65535 65535 (f .w-limit) (f .h-limit) (block k) (f .inside)
+
+  pub squares-fit : w * h < 4294967296
+  squares-fit = let p : w * h ≤ 65535 * 65535 = mul-le-mul (f .w-limit) (f .h-limit) in omega arith
+
+  -- a square of the block has its place in the table
+  pub spot-below : (s : Square) → Within (k .a) (k .b) s → place w (spot (block k) s) < w * h
+  spot-below s l = place-below w h (spot (block k) s) (spot-inside w h (block k) (f .inside) s l)
+
+  -- along the run of a straight block
+  module _ (c : choice (k .a) (k .b) ≡ StraightRun) (i : ℕ) (l : i < k .a) where
+    one-wide : k .b ≡ 1
+    one-wide = run-length (block k) (f .inside .sized) c
+
+    pub run-number : at + i < w * h
+    run-number =
+        let all : k .a * k .b ≡ k .a = ap (λ n. k .a * n) one-wide ∙ mul-one (k .a) in
+        let room = f .room in
+        omega arith
+
+    pub run-place : (there : ℕ) → there ≡ stepped-to (k .along) i (k .back)
+        → place w (cond (k .turned) (square (k .across) there) (square there (k .across))) ≡ place w (moved (block k .run) i (block k .start))
+    run-place there e =
+        ap (place w)
+        (ap (λ n. cond (k .turned) (square (k .across) n) (square n (k .across))) e ∙ run-moved (k .along) (k .across) (k .turned) (k .back) i)
+
+    pub run-below : place w (moved (block k .run) i (block k .start)) < w * h
+    unfolding spot
+    run-below =
+        subst (λ (s : Square). place w s < w * h) (moved-none (block k .side) (moved (block k .run) i (block k .start)))
+        (spot-below (square i 0) (record { run = l; side = let one = one-wide in omega arith }))
+
+  pub run-filled : (by-square : Bool) → choice (k .a) (k .b) ≡ StraightRun
+      → (entered-all by-square t at (map (place w) (row (block k .run) (k .a) (block k .start))) ≡ walked by-square w t (block k) at) × (1 ≡ length (blocks (block k)))
+  run-filled by-square c =
+      let is = rule (block k) StraightRun (f .inside .sized) c in
+      (ap (λ zs. entered-all by-square t at (map (place w) zs)) (sym (is .0)), sym (ap length (is .1)))

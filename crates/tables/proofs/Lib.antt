@@ -1,0 +1,5 @@
+pub mod Entries
+pub mod Quads
+pub mod Parts
+pub mod Whole
+pub mod Listed

@@ -1,0 +1,129 @@
+-- The two kinds of table as lists, place by place: what is entered for a whole area is what the lookups' definitions say.
+use mathlib.Core.Bool.{true, false}
+use mathlib.Core.List.{List, [], _∷_, _++_, map, append-assoc, append-nil}
+use mathlib.Core.Logic.{⊎-elim}
+use mathlib.Core.Path.{_≡_, refl, sym, ap, subst, subst⁻¹, _∙_}
+use Prim.Native.Nat.{ℕ, zero, suc, _+_, _*_, _/_, _%_, _≤_, _<_}
+use native.Mathlib.Nat.{add-zero, zero-add, suc-add, add-suc, le-of-suc-le-suc, eq-or-lt-of-le, mod-lt, mul-comm, div-add-mod', div-lt-iff-lt-mul, mul-add-mod-self-right, mod-eq-of-lt, mul-add-div-right, div-eq-of-lt}
+use native.Mathlib.Numerals.{add-one}
+use native.Mathlib.Omega.{arith}
+use lib.ListN.{length, getD, take, set, length-append, length-map, length-set, List·getD-append}
+use lib.Seq.{take-all, take-suc-set, getD-append-seam, getD-set-same, getD-set-other, ext-getD}
+use Rattle.division.specs.Division.{Square, square, whole, curve, square-of, number-of}
+use Rattle.division.proofs.Once.{length-curve, square-held, square-of-number, number-of-square, number-below}
+use Rattle.division.proofs.Blocks.{whole-inside}
+use Rattle.division.proofs.Local.{Within, whole-holds, whole-within, getD-map-in}
+use Rattle.tables.specs.Tables.{places, by-number, by-square}
+use Rattle.tables.specs.Walk.{place, entered-all, walked}
+use Rattle.tables.proofs.Entries.{entered-length}
+
+pub places-length : (f : ℕ → ℕ) (n : ℕ) → length (places f n) ≡ n
+unfolding places
+places-length f zero = refl
+places-length f (suc n) = length-append (places f n) (f n ∷ []) ∙ ap (λ m. m + 1) (places-length f n) ∙ add-one n
+
+pub place-holds : (f : ℕ → ℕ) (n i : ℕ) → i < n → getD (places f n) i 0 ≡ f i
+unfolding places
+place-holds f zero i l = absurd (omega arith)
+place-holds f (suc n) i l =
+    ⊎-elim
+    (λ e. ap (λ j. getD (places f n ++ (f n ∷ [])) j 0) (e ∙ sym (places-length f n)) ∙ getD-append-seam (places f n) (f n) [] 0 ∙ ap f (sym e))
+    (λ m. List·getD-append (places f n) (f n ∷ []) 0 i (subst⁻¹ (λ (k : ℕ). i < k) (places-length f n) m) ∙ place-holds f n i m)
+    (eq-or-lt-of-le (le-of-suc-le-suc l))
+
+-- by number: the places themselves, from the first number on
+numbers-entered : (t : List ℕ) (n : ℕ) (ps : List ℕ) → n + length ps ≡ length t → entered-all false t n ps ≡ take n t ++ ps
+unfolding entered-all
+numbers-entered t n [] e = sym (append-nil (take n t) ∙ take-all n t (omega arith))
+numbers-entered t n (p ∷ ps) e =
+    numbers-entered (set t n p) (suc n) ps (suc-add n (length ps) ∙ sym (add-suc n (length ps)) ∙ e ∙ sym (length-set t n p))
+    ∙ ap (λ zs. zs ++ ps) (take-suc-set t n p (omega arith))
+    ∙ append-assoc (take n t) (p ∷ []) ps
+
+-- by square: a place that is not among those entered keeps its value, and one that is gets its number
+kept-place : (t : List ℕ) (n : ℕ) (ps : List ℕ) (p : ℕ) → ((j : ℕ) → j < length ps → getD ps j 0 ≡ p → ⊥) → getD (entered-all true t n ps) p 0 ≡ getD t p 0
+unfolding entered-all
+kept-place t n [] p other = refl
+kept-place t n (q ∷ ps) p other =
+    kept-place (set t q n) (suc n) ps p (λ j l e. other (suc j) (omega arith) e) ∙ getD-set-other t q p n 0 (λ e. other 0 (omega arith) (sym e))
+
+square-entered : (t : List ℕ) (n : ℕ) (ps : List ℕ) (p i : ℕ) → p < length t → i < length ps → getD ps i 0 ≡ p
+    → ((j : ℕ) → j < length ps → getD ps j 0 ≡ p → j ≡ i) → getD (entered-all true t n ps) p 0 ≡ n + i
+unfolding entered-all
+square-entered t n [] p i l m e only = absurd (omega arith)
+square-entered t n (q ∷ ps) p zero l m e only =
+    kept-place (set t q n) (suc n) ps p (λ j k f. let same = only (suc j) (omega arith) f in omega arith)
+    ∙ ap (λ r. getD (set t r n) p 0) e
+    ∙ getD-set-same t p n 0 l
+    ∙ sym (add-zero n)
+square-entered t n (q ∷ ps) p (suc i) l m e only =
+    square-entered (set t q n) (suc n) ps p i (subst⁻¹ (λ (k : ℕ). p < k) (length-set t q n) l) (le-of-suc-le-suc m) e
+    (λ j k f. let same = only (suc j) (omega arith) f in omega arith)
+    ∙ suc-add n i ∙ sym (add-suc n i)
+
+-- a place and its square
+pub square-there : (w : ℕ) (s : Square) → s .x < w → square (place w s % w) (place w s / w) ≡ s
+square-there w s l =
+    let some : 0 < w = omega arith in
+    λ i. square
+    ((mul-add-mod-self-right (s .y) w (s .x) ∙ mod-eq-of-lt l) i)
+    ((mul-add-div-right some (s .y) (s .x) ∙ ap (λ n. s .y + n) (div-eq-of-lt l) ∙ add-zero (s .y)) i)
+
+pub place-there : (w p : ℕ) → place w (square (p % w) (p / w)) ≡ p
+place-there w p = div-add-mod' p w
+
+module _ (w h : ℕ) (a : 1 ≤ w) (b : 1 ≤ h) where
+  pub within-there : (p : ℕ) → p < w * h → Within w h (square (p % w) (p / w))
+  within-there p l = record { run = mod-lt p a; side = div-lt-iff-lt-mul a .1 (subst (λ (n : ℕ). p < n) (mul-comm w h) l) }
+
+  ps : List ℕ
+  ps = map (place w) (curve (whole w h))
+
+  ps-length : length ps ≡ w * h
+  unfolding ps whole
+  ps-length = length-map (curve (whole w h)) (place w) ∙ length-curve (whole w h) (whole-inside w h a b .sized)
+
+  ps-at : (i : ℕ) → i < w * h → getD ps i 0 ≡ place w (square-of (whole w h) i)
+  unfolding ps square-of whole
+  ps-at i l =
+      getD-map-in (place w) (curve (whole w h)) i 0 (square 0 0) (subst⁻¹ (λ (n : ℕ). i < n) (length-curve (whole w h) (whole-inside w h a b .sized)) l)
+
+  ps-square : (j : ℕ) → j < w * h → Within w h (square-of (whole w h) j)
+  unfolding whole
+  ps-square j l = whole-within w h (square-of (whole w h) j) (square-held w h (whole w h) (whole-inside w h a b) j l)
+
+  -- a place of the area is that of one square, whose number is the only one there
+  only-number : (p j : ℕ) → j < w * h → getD ps j 0 ≡ p → j ≡ number-of (whole w h) (square (p % w) (p / w))
+  unfolding whole
+  only-number p j l e =
+      let is : place w (square-of (whole w h) j) ≡ p = sym (ps-at j l) ∙ e in
+      let there : square (p % w) (p / w) ≡ square-of (whole w h) j =
+      ap (λ q. square (q % w) (q / w)) (sym is) ∙ square-there w (square-of (whole w h) j) (ps-square j l .run) in
+      sym (ap (number-of (whole w h)) there ∙ number-of-square w h (whole w h) (whole-inside w h a b) j l)
+
+  module _ (t : List ℕ) (size : length t ≡ w * h) where
+    pub number-table : walked false w t (whole w h) 0 ≡ by-number w h
+    unfolding ps by-number
+    number-table =
+        numbers-entered t 0 ps (zero-add (length ps) ∙ ps-length ∙ sym size)
+        ∙ ext-getD 0 ps (by-number w h) (ps-length ∙ sym (places-length (λ i. square-of (whole w h) i .y * w + square-of (whole w h) i .x) (w * h)))
+        (λ i l. let below : i < w * h = subst (λ (n : ℕ). i < n) ps-length l in
+        ps-at i below ∙ sym (place-holds (λ i. square-of (whole w h) i .y * w + square-of (whole w h) i .x) (w * h) i below))
+
+    pub square-table : walked true w t (whole w h) 0 ≡ by-square w h
+    unfolding ps by-square whole
+    square-table =
+        let f : ℕ → ℕ = λ p. number-of (whole w h) (square (p % w) (p / w)) in
+        let long : length (walked true w t (whole w h) 0) ≡ w * h = entered-length true t 0 ps ∙ size in
+        ext-getD 0 (walked true w t (whole w h) 0) (by-square w h) (long ∙ sym (places-length f (w * h)))
+        (λ p l. let below : p < w * h = subst (λ (n : ℕ). p < n) long l in
+        let s = square (p % w) (p / w) in
+        let held = whole-holds w h s (within-there p below) in
+        let inside = whole-inside w h a b in
+        let i = number-of (whole w h) s in
+        let i-below : i < w * h = number-below w h (whole w h) inside s held in
+        let at : getD ps i 0 ≡ p = ps-at i i-below ∙ ap (place w) (square-of-number w h (whole w h) inside s held) ∙ place-there w p in
+        square-entered t 0 ps p i (subst⁻¹ (λ (n : ℕ). p < n) size below) (subst⁻¹ (λ (n : ℕ). i < n) ps-length i-below) at
+        (λ j k e. only-number p j (subst (λ (n : ℕ). j < n) ps-length k) e)
+        ∙ zero-add i
+        ∙ sym (place-holds f (w * h) p below))

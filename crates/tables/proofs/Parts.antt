@@ -1,0 +1,193 @@
+-- Filling a block part by part: each part has its room, its area is less, the entries of the parts in order are the block's, and so are their counts.
+use mathlib.Core.Bool.{Bool}
+use mathlib.Core.List.{List, [], _∷_, _++_, map, map-append}
+use mathlib.Core.Path.{_≡_, refl, sym, ap, subst, subst⁻¹, _∙_}
+use Prim.Native.Nat.{ℕ, suc, _+_, _-_, _*_, _/_, _≤_, _<_}
+use native.Mathlib.Nat.{mul-comm, mul-le-mul, mul-le-mul-right}
+use native.Mathlib.Omega.{arith}
+use lib.ListN.{length, length-append, length-map}
+use Rattle.division.specs.declared.Choice.the-variants.{StraightRun, StraightSide, LongCut, UCut}
+use Rattle.division.specs.declared.Placed.{Placed}
+use Rattle.division.specs.Division.{Square, Block, choice, even-half, First, Second, A, B, C, part, parts, parts-of, curve, blocks}
+use Rattle.division.specs.Division.Inside.{Sized}
+use Rattle.division.specs.Division.Rules.{All, Smaller, smaller, parts-are, rule, halves, long-lengths, u-lengths, side-length}
+use Rattle.division.specs.Forms.{block}
+use Rattle.division.proofs.Plane.{turned}
+use Rattle.division.proofs.Sums.{total, all-right}
+use Rattle.division.proofs.Cuts.{area}
+use Rattle.division.proofs.Once.{length-curve}
+use Rattle.division.proofs.Blocks.{few-blocks}
+use Rattle.division.proofs.Descent.{part-inside, skip-fits}
+use Rattle.division.proofs.Walks.{Sums, sums}
+use Rattle.tables.specs.Walk.{place, entered-all, walked, exchanged, Fills}
+use Rattle.tables.proofs.Entries.{entered-append}
+
+-- one call on a part: its measure is less, and it has its room
+module _ {w h : ℕ} {t : List ℕ} {k : Block} {at : ℕ} (f : Fills w h t k at) (before : List Block) (q : Block) (after : List Block) (e : parts k ≡ before ++ (q ∷ after)) where
+  call : (t′ : List ℕ) → length t′ ≡ length t → (on : ℕ) → on ≡ at + total area before → (r : Placed) → block r ≡ q
+      → (2 * (r .a * r .b) + 1 < 2 * (k .a * k .b)) × Fills w h t′ (block r) on
+  call t′ same on is r there =
+      let inside = part-inside w h k (f .inside) before q after e in
+      let less : Smaller k q = all-right (Smaller k) before (q ∷ after) (subst (All (Smaller k)) e (smaller k (f .inside .sized))) .0 in
+      let thirds = less .two-thirds in
+      let some : 1 * 1 ≤ area q = mul-le-mul (inside .sized .run) (inside .sized .side) in
+      let squares : r .a * r .b ≡ area q = ap area there in
+      let fits = skip-fits w h k (f .inside) before q after e in
+      let room = f .room in (
+        omega arith,
+        subst⁻¹ (λ (b : Block). Fills w h t′ b on) there
+            (record { w-limit = f .w-limit; h-limit = f .h-limit; inside = inside; size = same ∙ f .size; room = omega arith }),
+      )
+
+-- a block's entries where its curve begins with a part's
+walked-first : (by-square : Bool) (w : ℕ) (t : List ℕ) (k q : Block) (zs : List Square) (at : ℕ) → Sized q → curve k ≡ curve q ++ zs
+    → walked by-square w t k at ≡ entered-all by-square (walked by-square w t q at) (at + area q) (map (place w) zs)
+walked-first by-square w t k q zs at s e =
+    ap (λ ss. entered-all by-square t at (map (place w) ss)) e
+    ∙ ap (entered-all by-square t at) (map-append (place w) (curve q) zs)
+    ∙ entered-append by-square t at (map (place w) (curve q)) (map (place w) zs)
+    ∙ ap (λ n. entered-all by-square (walked by-square w t q at) (at + n) (map (place w) zs)) (length-map (curve q) (place w) ∙ length-curve q s)
+
+-- a count of blocks is a 64-bit number
+pub few : {w h : ℕ} {t : List ℕ} {k : Block} {at : ℕ} → Fills w h t k at → length (blocks k) < 8589934592
+few {k = k} f =
+    let most = few-blocks k (f .inside .sized) in
+    let room = f .room in
+    let all = mul-le-mul (f .w-limit) (f .h-limit) in
+    omega arith
+
+-- the long cut
+module _ (k : Placed) {w h : ℕ} {t : List ℕ} {at : ℕ} (f : Fills w h t (block k) at) (c : choice (k .a) (k .b) ≡ LongCut) (e : ℕ) (half : e ≡ even-half (k .a)) where
+  sized-first : Sized (part First (block k))
+  unfolding parts-of
+  sized-first = part-inside w h (block k) (f .inside) [] (part First (block k)) (part Second (block k) ∷ []) (parts-are (block k) LongCut c) .sized
+
+  pub first-call : (r : Placed) → block r ≡ part First (block k) → (2 * (r .a * r .b) + 1 < 2 * (k .a * k .b)) × Fills w h t (block r) at
+  unfolding parts-of
+  first-call r there = call f [] (part First (block k)) (part Second (block k) ∷ []) (parts-are (block k) LongCut c) t refl at (omega arith) r there
+
+  pub second-call : (t′ : List ℕ) → length t′ ≡ length t → (r : Placed) → block r ≡ part Second (block k)
+      → (2 * (r .a * r .b) + 1 < 2 * (k .a * k .b)) × Fills w h t′ (block r) (at + e * k .b)
+  unfolding parts-of part
+  second-call t′ same r there =
+      call f (part First (block k) ∷ []) (part Second (block k)) [] (parts-are (block k) LongCut c) t′ same (at + e * k .b)
+      (rw half (omega arith)) r there
+
+  pub second-number : (e * k .b < 4294967296) × (at + e * k .b < 4294967296)
+  second-number =
+      let lengths = long-lengths (block k) (f .inside .sized) c in
+      let less = halves (k .a) (lengths .0) in
+      let part : e * k .b ≤ k .a * k .b = mul-le-mul-right (k .b) (omega arith) in
+      let room = f .room in
+      let all = mul-le-mul (f .w-limit) (f .h-limit) in
+      (omega arith, omega arith)
+
+  pub long-filled : (by-square : Bool) (n m : ℕ) → n ≡ length (blocks (part First (block k))) → m ≡ length (blocks (part Second (block k)))
+      → (walked by-square w (walked by-square w t (part First (block k)) at) (part Second (block k)) (at + e * k .b) ≡ walked by-square w t (block k) at)
+      × (n + m + 1 ≡ length (blocks (block k)))
+  unfolding part
+  long-filled by-square n m p q =
+      let is = rule (block k) LongCut (f .inside .sized) c in (
+        ap (λ a. walked by-square w (walked by-square w t (part First (block k)) at) (part Second (block k)) (at + a * k .b)) half
+            ∙ sym (walked-first by-square w t (block k) (part First (block k)) (curve (part Second (block k))) at sized-first (is .0)),
+        let sum = ap length (is .1) ∙ ap suc (length-append (blocks (part First (block k))) (blocks (part Second (block k)))) in omega arith,
+      )
+
+-- the U cut
+module _ (k : Placed) {w h : ℕ} {t : List ℕ} {at : ℕ} (f : Fills w h t (block k) at) (c : choice (k .a) (k .b) ≡ UCut) (e : ℕ) (half : e ≡ even-half (k .b)) where
+  sized-a : Sized (part A (block k))
+  unfolding parts-of
+  sized-a =
+      part-inside w h (block k) (f .inside) [] (part A (block k)) (part B (block k) ∷ part C (block k) ∷ []) (parts-are (block k) UCut c) .sized
+
+  sized-b : Sized (part B (block k))
+  unfolding parts-of
+  sized-b =
+      part-inside w h (block k) (f .inside) (part A (block k) ∷ []) (part B (block k)) (part C (block k) ∷ []) (parts-are (block k) UCut c) .sized
+
+  pub a-call : (r : Placed) → block r ≡ part A (block k) → (2 * (r .a * r .b) + 1 < 2 * (k .a * k .b)) × Fills w h t (block r) at
+  unfolding parts-of
+  a-call r there =
+      call f [] (part A (block k)) (part B (block k) ∷ part C (block k) ∷ []) (parts-are (block k) UCut c) t refl at (omega arith) r there
+
+  pub b-call : (t′ : List ℕ) → length t′ ≡ length t → (r : Placed) → block r ≡ part B (block k)
+      → (2 * (r .a * r .b) + 1 < 2 * (k .a * k .b)) × Fills w h t′ (block r) (at + e * (k .a / 2))
+  unfolding parts-of part
+  b-call t′ same r there =
+      call f (part A (block k) ∷ []) (part B (block k)) (part C (block k) ∷ []) (parts-are (block k) UCut c) t′ same (at + e * (k .a / 2))
+      (rw half (omega arith)) r there
+
+  pub c-call : (t′ : List ℕ) → length t′ ≡ length t → (r : Placed) → block r ≡ part C (block k)
+      → (2 * (r .a * r .b) + 1 < 2 * (k .a * k .b)) × Fills w h t′ (block r) (at + e * (k .a / 2) + k .a * (k .b - e))
+  unfolding parts-of part
+  c-call t′ same r there =
+      call f (part A (block k) ∷ part B (block k) ∷ []) (part C (block k)) [] (parts-are (block k) UCut c) t′ same (at + e * (k .a / 2) + k .a * (k .b - e))
+      (rw half (omega arith)) r there
+
+  pub u-numbers : Sums at (k .a) (k .b) e
+  u-numbers =
+      let room = f .room in
+      let all = mul-le-mul (f .w-limit) (f .h-limit) in
+      sums at (k .a) (k .b) e (u-lengths (block k) (f .inside .sized) c .1) half (omega arith)
+
+  pub u-filled : (by-square : Bool) (l m n : ℕ)
+      → l ≡ length (blocks (part A (block k))) → m ≡ length (blocks (part B (block k))) → n ≡ length (blocks (part C (block k)))
+      → (walked by-square w
+      (walked by-square w (walked by-square w t (part A (block k)) at) (part B (block k)) (at + e * (k .a / 2)))
+      (part C (block k)) (at + e * (k .a / 2) + k .a * (k .b - e))
+      ≡ walked by-square w t (block k) at)
+      × (l + m + n + 1 ≡ length (blocks (block k)))
+  unfolding part
+  u-filled by-square l m n p q r =
+      let is = rule (block k) UCut (f .inside .sized) c in
+      let rest = curve (part B (block k)) ++ curve (part C (block k)) in
+      let sum =
+      ap length (is .1)
+      ∙ ap suc (length-append (blocks (part A (block k))) (blocks (part B (block k)) ++ blocks (part C (block k)))
+      ∙ ap (λ x. length (blocks (part A (block k))) + x) (length-append (blocks (part B (block k))) (blocks (part C (block k))))) in (
+        ap (λ a. walked by-square w (walked by-square w (walked by-square w t (part A (block k)) at) (part B (block k)) (at + a * (k .a / 2))) (part C (block k)) (at + a * (k .a / 2) + k .a * (k .b - a))) half
+            ∙ sym
+            (walked-first by-square w t (block k) (part A (block k)) rest at sized-a (is .0)
+            ∙ ap (entered-all by-square (walked by-square w t (part A (block k)) at) (at + area (part A (block k)))) (map-append (place w) (curve (part B (block k))) (curve (part C (block k))))
+            ∙ entered-append by-square (walked by-square w t (part A (block k)) at) (at + area (part A (block k))) (map (place w) (curve (part B (block k)))) (map (place w) (curve (part C (block k))))
+            ∙ ap (λ x. entered-all by-square (walked by-square w (walked by-square w t (part A (block k)) at) (part B (block k)) (at + area (part A (block k)))) (at + area (part A (block k)) + x) (map (place w) (curve (part C (block k)))))
+            (length-map (curve (part B (block k))) (place w) ∙ length-curve (part B (block k)) sized-b)),
+        omega arith,
+      )
+
+-- a straight block with run and side exchanged: the same entries
+module _ (k : Placed) {w h : ℕ} {t : List ℕ} {at : ℕ} (f : Fills w h t (block k) at) (c : choice (k .a) (k .b) ≡ StraightSide) where
+  exchanged-fills : Fills w h t (exchanged (block k)) at
+  unfolding exchanged
+  exchanged-fills =
+      let room = f .room in
+      record {
+        w-limit = f .w-limit;
+        h-limit = f .h-limit;
+        inside = record {
+          sized = record { run = f .inside .sized .side; side = f .inside .sized .run };
+          paired = turned (f .inside .paired);
+          run = f .inside .side;
+          side = f .inside .run;
+        };
+        size = f .size;
+        room = omega (arith, mul-comm (k .a) (k .b));
+      }
+
+  exchanged-case : choice (exchanged (block k) .a) (exchanged (block k) .b) ≡ StraightRun
+  unfolding exchanged choice
+  exchanged-case = rw (side-length (block k) (f .inside .sized) c)
+
+  pub side-call : (r : Placed) → block r ≡ exchanged (block k) → Fills w h t (block r) at × (choice (r .a) (r .b) ≡ StraightRun)
+  side-call r there =
+      subst⁻¹ (λ (j : Block). Fills w h t j at × (choice (j .a) (j .b) ≡ StraightRun)) there (exchanged-fills, exchanged-case)
+
+  pub side-filled : (by-square : Bool) (r : Placed) → block r ≡ exchanged (block k)
+      → (walked by-square w t (block r) at ≡ walked by-square w t (block k) at) × (length (blocks (block r)) ≡ length (blocks (block k)))
+  unfolding exchanged
+  side-filled by-square r there =
+      let mine = rule (block k) StraightSide (f .inside .sized) c in
+      let other = rule (exchanged (block k)) StraightRun (exchanged-fills .inside .sized) exchanged-case in (
+        ap (λ zs. entered-all by-square t at (map (place w) zs)) (ap curve there ∙ other .0 ∙ sym (mine .0)),
+        ap (λ j. length (blocks j)) there ∙ ap length (other .1) ∙ sym (ap length (mine .1)),
+      )

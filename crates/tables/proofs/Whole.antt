@@ -1,0 +1,78 @@
+-- A call on the table of a whole area: its refusals, and that refusal 9 never arises.
+use mathlib.Core.Bool.{Bool, true, false}
+use mathlib.Core.List.{List, [], _∷_}
+use mathlib.Core.Path.{_≡_, refl, sym, ap, _∙_}
+use Prim.Native.Nat.{ℕ, _+_, _*_, _<_}
+use native.Mathlib.Omega.{arith}
+use borrow.Author.Tests.{eq-eqb, ne-eqb, eqb-true, eqb-false, le-ltb}
+use lib.Dec.{ltb, eqb}
+use lib.ListN.{length}
+use Rattle.terms.specs.declared.Refusal.{Refusal}
+use Rattle.terms.specs.declared.Refusal.the-variants.{AreaLimit, TableLength}
+use Rattle.terms.specs.Terms.{accepted, Figures, answered, refused}
+use Rattle.terms.proofs.Laws.{limits, refusal-some}
+use Rattle.division.specs.Division.{whole, curve, blocks-holding, count}
+use Rattle.division.proofs.Blocks.{whole-inside, at-most-54}
+use Rattle.division.proofs.Walks.{product-limit}
+use Rattle.tables.specs.Tables.{some-deep, on-table, unless-refused}
+use Rattle.tables.specs.Walk.{Fills}
+
+none-counted : {X : Type 0} (f : X → Bool) (zs : List X) → ((z : X) → f z ≡ false) → count f zs ≡ 0
+unfolding count
+none-counted f [] h = refl
+none-counted f (z ∷ zs) h = rw (h z) (ap (λ n. 0 + n) (none-counted f zs h))
+
+-- no accepted area has a square that over 64 blocks hold
+pub not-deep : (w h : ℕ) → accepted w h ≡ true → some-deep w h ≡ false
+unfolding some-deep
+not-deep w h ok =
+    let all = limits w h ok in
+    let none : count (λ s. ltb 64 (blocks-holding (whole w h) s)) (curve (whole w h)) ≡ 0 =
+    none-counted (λ s. ltb 64 (blocks-holding (whole w h) s)) (curve (whole w h))
+    (λ s. le-ltb 64 (blocks-holding (whole w h) s)
+    (let few = at-most-54 w h (all .w-least) (all .w-most) (all .h-least) (all .h-most) s in omega arith)) in
+    rw none
+
+pub squares-limit : (w h : ℕ) → accepted w h ≡ true → w * h < 4294967296
+squares-limit w h ok = let all = limits w h ok in product-limit w h (all .w-most) (all .h-most)
+
+module _ (w h : ℕ) (t : List ℕ) (n : ℕ) (answer : Figures) where
+  pub area-refused : accepted w h ≡ false → refused AreaLimit n ≡ on-table w h t n answer
+  unfolding on-table
+  area-refused bad = rw bad
+
+  pub length-refused : accepted w h ≡ true → (length t ≡ w * h → ⊥) → refused TableLength n ≡ on-table w h t n answer
+  unfolding on-table
+  length-refused ok other = rw (ok, ne-eqb (length t) (w * h) other)
+
+  pub taken : accepted w h ≡ true → length t ≡ w * h → on-table w h t n answer ≡ answer
+  unfolding on-table
+  taken ok size = rw (ok, eq-eqb (length t) (w * h) size, not-deep w h ok)
+
+-- a refused table is kept, and one that is answered is filled
+pub kept : (r : Refusal) (n : ℕ) {f : Figures} (filled t : List ℕ) → refused r n ≡ f → t ≡ unless-refused f filled t
+unfolding unless-refused
+kept r n filled t e = rw (ne-eqb _ 0 (λ z. refusal-some r (ap (λ g. g .refusal) e ∙ z)))
+
+pub given : (values : List ℕ) {f : Figures} (filled t : List ℕ) → f ≡ answered values → filled ≡ unless-refused f filled t
+unfolding unless-refused
+given values filled t e = rw (eq-eqb _ 0 (ap (λ g. g .refusal) e))
+
+-- the whole area is a block that a fill can take
+pub whole-fills : (w h : ℕ) (t : List ℕ) → accepted w h ≡ true → length t ≡ w * h → Fills w h t (whole w h) 0
+unfolding whole
+whole-fills w h t ok size =
+    let all = limits w h ok in
+    record { w-limit = all .w-most; h-limit = all .h-most; inside = whole-inside w h (all .w-least) (all .h-least); size = size; room = omega arith }
+
+-- what a fill leaves where it is not refused may be put another way
+module _ (w h : ℕ) (t : List ℕ) (n : ℕ) (answer : Figures) (x y : List ℕ) (same : accepted w h ≡ true → length t ≡ w * h → x ≡ y) where
+  filled-by : (a b : Bool) → accepted w h ≡ a → eqb (length t) (w * h) ≡ b → unless-refused (on-table w h t n answer) x t ≡ unless-refused (on-table w h t n answer) y t
+  filled-by true true p q = ap (λ z. unless-refused (on-table w h t n answer) z t) (same p (eqb-true (length t) (w * h) q))
+  filled-by true false p q =
+      let is = length-refused w h t n answer p (eqb-false (length t) (w * h) q) in
+      sym (kept TableLength n x t is) ∙ kept TableLength n y t is
+  filled-by false b p q = let is = area-refused w h t n answer p in sym (kept AreaLimit n x t is) ∙ kept AreaLimit n y t is
+
+  pub filled-as : unless-refused (on-table w h t n answer) x t ≡ unless-refused (on-table w h t n answer) y t
+  filled-as = filled-by (accepted w h) (eqb (length t) (w * h)) refl refl

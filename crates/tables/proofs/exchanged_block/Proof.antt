@@ -1,0 +1,21 @@
+-- `tables::exchanged_block` meets its contract: the bit that says which direction is along y is turned over.
+use mathlib.Core.Bool.{Bool, true, false, not}
+use mathlib.Core.Path.{_≡_, refl}
+use Prim.Native.Nat.{ℕ}
+use Rattle.division.specs.Forms.{block}
+use Rattle.tables.specs.Walk.{exchanged}
+use Rattle.tables.proofs.exchanged_block.Statement.{statement}
+use Rattle.tables.proofs.exchanged_block.Tie as tie
+
+exchanged-by : (along across a b : ℕ) (turned back : Bool)
+    → block (record { along = across; across = along; turned = not turned; back = back; a = b; b = a })
+    ≡ exchanged (block (record { along = along; across = across; turned = turned; back = back; a = a; b = b }))
+unfolding exchanged
+exchanged-by along across a b true back = refl
+exchanged-by along across a b false back = refl
+
+returns : tie.Need-returns
+returns c = exchanged-by (c .before .args .k .along) (c .before .args .k .across) (c .before .args .k .a) (c .before .args .k .b) (c .before .args .k .turned) (c .before .args .k .back)
+
+pub exchanged-block-spec : {M : Type 1} → statement M
+exchanged-block-spec = tie.close (tie.spec returns)

@@ -1,0 +1,68 @@
+-- `tables::fill_whole` meets its contract: each refusal in its order, with the table kept, and the walk over the whole area else.
+use borrow.Author.Needs.{needs}
+use borrow.Author.Tests.{not-true, not-false}
+use mathlib.Core.List.{[], _∷_}
+use mathlib.Core.Path.{sym, ap, _∙_}
+use native.Mathlib.Omega.{arith}
+use lib.ListN.{length}
+use Rattle.terms.specs.declared.Refusal.the-variants.{AreaLimit, TableLength}
+use Rattle.terms.specs.Terms.{answered}
+use Rattle.division.specs.Division.{whole, blocks}
+use Rattle.tables.specs.Tables.{fill}
+use Rattle.tables.specs.Walk.{walked}
+use Rattle.tables.proofs.Whole.{squares-limit, area-refused, length-refused, taken, kept, given, whole-fills}
+use Rattle.tables.proofs.fill_whole.Statement.{statement}
+use Rattle.tables.proofs.fill_whole.Tie as tie
+
+accepts-requires : tie.Need-accepts-requires
+accepts-requires c κs = search needs
+
+returns : tie.Need-returns
+unfolding fill whole
+returns c =
+    let is = area-refused (c .before .before .before .args .area .w) (c .before .before .before .args .area .h) (c .before .before .before .args .table .now) 1 (answered (length (blocks (whole (c .before .before .before .args .area .w) (c .before .before .before .args .area .h))) ∷ [])) (sym (c .before .accepts .ensures) ∙ not-true _ (c .if1 .taken)) in
+    (is, kept AreaLimit 1 (walked (c .before .before .before .args .by-square) (c .before .before .before .args .area .w) (c .before .before .before .args .table .now) (whole (c .before .before .before .args .area .w) (c .before .before .before .args .area .h)) 0) (c .before .before .before .args .table .now) is)
+
+cast-if2 : tie.Need-cast-if2
+cast-if2 c = search needs
+
+cast-if2-2 : tie.Need-cast-if2-2
+cast-if2-2 c = search needs
+
+mul-if2 : tie.Need-mul-if2
+mul-if2 c = record { fits = let limit = squares-limit (c .before .before .before .args .area .w) (c .before .before .before .args .area .h) (sym (c .before .accepts .ensures) ∙ not-false _ (c .if1 .left)) in omega arith }
+
+returns-2 : tie.Need-returns-2
+unfolding fill whole
+returns-2 c =
+    let is = length-refused (c .before .before .before .before .args .area .w) (c .before .before .before .before .args .area .h) (c .before .before .before .before .args .table .now) 1 (answered (length (blocks (whole (c .before .before .before .before .args .area .w) (c .before .before .before .before .args .area .h))) ∷ [])) (sym (c .before .before .accepts .ensures) ∙ not-false _ (c .before .if1 .left)) (c .if2 .taken) in
+    (is, kept TableLength 1 (walked (c .before .before .before .before .args .by-square) (c .before .before .before .before .args .area .w) (c .before .before .before .before .args .table .now) (whole (c .before .before .before .before .args .area .w) (c .before .before .before .before .args .area .h)) 0) (c .before .before .before .before .args .table .now) is)
+
+fill-block-requires : tie.Need-fill-block-requires
+unfolding fill whole
+fill-block-requires c κs = whole-fills (c .before .before .before .before .before .args .area .w) (c .before .before .before .before .before .args .area .h) (c .before .before .before .before .before .args .table .now) (sym (c .before .before .before .accepts .ensures) ∙ not-false _ (c .before .before .if1 .left)) (c .before .if2 .left)
+
+same-length : tie.Need-same-length
+same-length c = search needs
+
+returns-3 : tie.Need-returns-3
+unfolding fill whole
+returns-3 c =
+    let is = taken (c .before .before .before .before .before .before .before .before .args .area .w) (c .before .before .before .before .before .before .before .before .args .area .h) (c .before .before .before .before .before .before .before .before .args .table .now) 1 (answered (length (blocks (whole (c .before .before .before .before .before .before .before .before .args .area .w) (c .before .before .before .before .before .before .before .before .args .area .h))) ∷ [])) (sym (c .before .before .before .before .before .before .accepts .ensures) ∙ not-false _ (c .before .before .before .before .before .if1 .left)) (c .before .before .before .before .if2 .left) in (
+      ap (λ n. answered (n ∷ [])) (c .before .before .fill-block .ensures .1) ∙ sym is,
+      c .before .before .fill-block .ensures .0 ∙ given (length (blocks (whole (c .before .before .before .before .before .before .before .before .args .area .w) (c .before .before .before .before .before .before .before .before .args .area .h))) ∷ []) (walked (c .before .before .before .before .before .before .before .before .args .by-square) (c .before .before .before .before .before .before .before .before .args .area .w) (c .before .before .before .before .before .before .before .before .args .table .now) (whole (c .before .before .before .before .before .before .before .before .args .area .w) (c .before .before .before .before .before .before .before .before .args .area .h)) 0) (c .before .before .before .before .before .before .before .before .args .table .now) is,
+    )
+
+pub fill-whole-spec : {M : Type 1} → statement M
+fill-whole-spec =
+    tie.close
+    (tie.spec
+    accepts-requires
+    returns
+    cast-if2
+    cast-if2-2
+    mul-if2
+    returns-2
+    fill-block-requires
+    same-length
+    returns-3)

@@ -1,0 +1,45 @@
+-- What a fill and a check of a table say, for every area and every table: document 01, "What a lookup and a table say" and "Refusal numbers".
+use mathlib.Core.Bool.{Bool, cond}
+use mathlib.Core.List.{List, [], _∷_, _++_}
+use Prim.Native.Nat.{ℕ, zero, suc, _+_, _*_, _/_, _%_}
+use lib.Dec.{ltb, eqb}
+use lib.ListN.{length}
+use Rattle.terms.specs.declared.Refusal.the-variants.{AreaLimit, TableLength, TooDeep}
+use Rattle.terms.specs.Terms.{accepted, Figures, answered, refused}
+use Rattle.division.specs.Division.{square, whole, curve, blocks, square-of, number-of, blocks-holding, count}
+use Rattle.tables.specs.declared.FillAnswer as FillAnswers
+
+-- The table of n places that holds f p at each place p.
+unfoldable pub places : (ℕ → ℕ) → (n : ℕ) → List ℕ
+places f zero = []
+places f (suc n) = places f n ++ (f n ∷ [])
+
+-- "fill by number: place i holds y·w + x of square number i"
+unfoldable pub by-number : (w h : ℕ) → List ℕ
+by-number w h = places (λ i. square-of (whole w h) i .y * w + square-of (whole w h) i .x) (w * h)
+
+-- "fill by square: place y·w + x holds the square's number"
+unfoldable pub by-square : (w h : ℕ) → List ℕ
+by-square w h = places (λ p. number-of (whole w h) (square (p % w) (p / w))) (w * h)
+
+-- "9: over 64 blocks of the division hold one and the same square that the call needs": a table needs every square of its area.
+unfoldable pub some-deep : (w h : ℕ) → Bool
+some-deep w h = ltb 0 (count (λ s. ltb 64 (blocks-holding (whole w h) s)) (curve (whole w h)))
+
+-- "A table's length must be exactly w·h." "For library calls the order is 1, then whichever of 2, 3, 4 belongs to the call, then 9." What a call on
+-- a table answers, where n values would be answered, and what is left of a table that it fills: "the table is unaltered".
+unfoldable pub on-table : (w h : ℕ) → List ℕ → (n : ℕ) → Figures → Figures
+on-table w h table n answer =
+    cond (accepted w h) (cond (eqb (length table) (w * h)) (cond (some-deep w h) (refused TooDeep n) answer) (refused TableLength n)) (refused AreaLimit n)
+
+unfoldable pub unless-refused : Figures → (filled table : List ℕ) → List ℕ
+unless-refused answer filled table = cond (eqb (answer .refusal) 0) filled table
+
+-- A fill reports "all blocks of the division".
+unfoldable pub fill : (w h : ℕ) → List ℕ → Figures
+fill w h table = on-table w h table 1 (answered (length (blocks (whole w h)) ∷ []))
+
+-- The figures of a fill's answer.
+abbrev pub fill-figures : FillAnswers.FillAnswer → Figures
+fill-figures (FillAnswers.the-variants.Filled blocks) = answered (blocks ∷ [])
+fill-figures (FillAnswers.the-variants.Refused r) = refused r 1

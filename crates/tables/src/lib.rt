@@ -1,0 +1,185 @@
+// Filling and checking tables for a whole area.
+use division::Choice;
+use division::Placed;
+use terms::Area;
+use terms::Refusal;
+ghost use mathlib.Core.Bool.{cond};
+ghost use mathlib.Core.Path.{_≡_};
+ghost use Prim.Native.Nat.{_+_, _*_, _≤_, _<_};
+ghost use lib.ListN.{length};
+ghost use Rattle.division.specs.declared.Choice.the-variants.{StraightRun, StraightSide, LongCut, UCut};
+ghost use Rattle.division.specs.Division.{square, choice, blocks, whole};
+ghost use Rattle.division.specs.Forms.{block};
+ghost use Rattle.tables.specs.Tables.{by-number, by-square, unless-refused, fill, fill-figures};
+ghost use Rattle.tables.specs.Walk.{place, entered, walked, exchanged, Fills};
+
+// What a fill answers.
+pub enum FillAnswer {
+    Filled { blocks: u64 },
+    Refused(Refusal),
+}
+
+// A square's place in a table by square.
+fn place_of(along: u32, across: u32, turned: bool, w: u32) -> u32
+    requires { ⌜ place w (cond turned (square across along) (square along across)) < 4294967296 ⌝ }
+    ensures { λ r. ⌜ r ≡ place w (cond turned (square across along) (square along across)) ⌝ }
+{
+    division::either(turned, along, across) * w + division::either(turned, across, along)
+}
+
+// Enters square number n, which has the place p.
+fn enter(table: &mut [u32], n: u32, p: u32, by_square: bool)
+    requires { ⌜ (n < length (now table)) × (p < length (now table)) ⌝ }
+    ensures { λ r. ⌜ now (table .exit) ≡ entered «by_square» (now (table .entry)) n p ⌝ }
+{
+    let i = division::either(by_square, p, n) as usize;
+    table[i] = division::either(by_square, n, p);
+}
+
+// The squares of a straight block, which follow in its run.
+fn fill_run(table: &mut [u32], k: Placed, area: Area, at: u32, by_square: bool) -> u64
+    requires { ⌜ Fills (area .w) (area .h) (now table) (block k) at × (choice (k .a) (k .b) ≡ StraightRun) ⌝ }
+    ensures { λ r. ⌜ (now (table .exit) ≡ walked «by_square» (area .w) (now (table .entry)) (block k) at) × (r ≡ length (blocks (block k))) ⌝ }
+{
+    let w = area.w;
+    for i in 0..k.a {
+        let p = place_of(division::stepped(k.along, i, k.back), k.across, k.turned, w);
+        enter(table, at + i, p, by_square);
+    }
+    1
+}
+
+// A block with run and side exchanged.
+fn exchanged_block(k: Placed) -> Placed
+    ensures { λ r. ⌜ block r ≡ exchanged (block k) ⌝ }
+{
+    Placed {
+        along: k.across,
+        across: k.along,
+        turned: !k.turned,
+        back: k.back,
+        a: k.b,
+        b: k.a,
+    }
+}
+
+// Enters two squares, numbered on from n.
+fn enter_two(table: &mut [u32], n: u32, p: u32, q: u32, by_square: bool)
+    requires { ⌜ (n + 1 < 4294967296) × (n + 1 < length (now table)) × (p < length (now table)) × (q < length (now table)) ⌝ }
+    ensures { λ r. ⌜ now (table .exit) ≡ entered «by_square» (entered «by_square» (now (table .entry)) n p) (n + 1) q ⌝ }
+{
+    enter(table, n, p, by_square);
+    enter(table, n + 1, q, by_square);
+}
+
+// The four squares of a 2 by 2 block, at once: most of a large area's squares lie in one.
+fn fill_quad(table: &mut [u32], k: Placed, area: Area, at: u32, by_square: bool) -> u64
+    requires { ⌜ Fills (area .w) (area .h) (now table) (block k) at × (k .a ≡ 2) × (k .b ≡ 2) ⌝ }
+    ensures { λ r. ⌜ (now (table .exit) ≡ walked «by_square» (area .w) (now (table .entry)) (block k) at) × (r ≡ length (blocks (block k))) ⌝ }
+{
+    let w = area.w;
+    let far = division::stepped(k.along, 1, k.back);
+    let up = division::stepped(k.across, 1, k.back);
+    let p = place_of(k.along, k.across, k.turned, w);
+    let q = place_of(k.along, up, k.turned, w);
+    let r = place_of(far, up, k.turned, w);
+    let s = place_of(far, k.across, k.turned, w);
+    enter_two(table, at, p, q, by_square);
+    enter_two(table, at + 2, r, s, by_square);
+    4
+}
+
+// A block by its case. It and the two cuts call each other; the block's area falls.
+fn fill_block(table: &mut [u32], k: Placed, area: Area, at: u32, by_square: bool) -> u64
+    requires { ⌜ Fills (area .w) (area .h) (now table) (block k) at ⌝ }
+    ensures { λ r. ⌜ (now (table .exit) ≡ walked «by_square» (area .w) (now (table .entry)) (block k) at) × (r ≡ length (blocks (block k))) ⌝ }
+{
+    let a = k.a;
+    let b = k.b;
+    let case = division::choose(a, b);
+    match case {
+        Choice::StraightRun => fill_run(table, k, area, at, by_square),
+        Choice::StraightSide => fill_run(table, exchanged_block(k), area, at, by_square),
+        Choice::LongCut => fill_long_cut(table, k, area, at, by_square),
+        Choice::UCut => {
+            if a == 2 {
+                if b == 2 {
+                    return fill_quad(table, k, area, at, by_square);
+                }
+            }
+            fill_u_cut(table, k, area, at, by_square)
+        }
+    }
+}
+
+// The two parts of a long cut.
+fn fill_long_cut(table: &mut [u32], k: Placed, area: Area, at: u32, by_square: bool) -> u64
+    requires { ⌜ Fills (area .w) (area .h) (now table) (block k) at × (choice (k .a) (k .b) ≡ LongCut) ⌝ }
+    ensures { λ r. ⌜ (now (table .exit) ≡ walked «by_square» (area .w) (now (table .entry)) (block k) at) × (r ≡ length (blocks (block k))) ⌝ }
+{
+    let to_second = at + division::even_half(k.a) * k.b;
+    let first = fill_block(table, division::long_part(k, false), area, at, by_square);
+    let second = fill_block(
+        table,
+        division::long_part(k, true),
+        area,
+        to_second,
+        by_square,
+    );
+    first + second + 1
+}
+
+// The three parts of a U cut.
+fn fill_u_cut(table: &mut [u32], k: Placed, area: Area, at: u32, by_square: bool) -> u64
+    requires { ⌜ Fills (area .w) (area .h) (now table) (block k) at × (choice (k .a) (k .b) ≡ UCut) ⌝ }
+    ensures { λ r. ⌜ (now (table .exit) ≡ walked «by_square» (area .w) (now (table .entry)) (block k) at) × (r ≡ length (blocks (block k))) ⌝ }
+{
+    let e = division::even_half(k.b);
+    let to_b = at + e * (k.a / 2);
+    let to_c = to_b + k.a * (k.b - e);
+    let a = fill_block(table, division::part_a(k), area, at, by_square);
+    let b = fill_block(table, division::part_b(k), area, to_b, by_square);
+    let c = fill_block(table, division::part_c(k), area, to_c, by_square);
+    a + b + c + 1
+}
+
+// Fills a table of either kind for a whole area.
+fn fill_whole(area: Area, table: &mut [u32], by_square: bool) -> FillAnswer
+    ensures { λ r. ⌜ (fill-figures r ≡ fill (area .w) (area .h) (now (table .entry)))
+        × (now (table .exit) ≡ unless-refused (fill (area .w) (area .h) (now (table .entry))) (walked «by_square» (area .w) (now (table .entry)) (whole (area .w) (area .h)) 0) (now (table .entry))) ⌝ }
+{
+    let w = area.w;
+    let h = area.h;
+    if !terms::accepts(area) {
+        return FillAnswer::Refused(Refusal::AreaLimit);
+    }
+    if table.len() != w as usize * h as usize {
+        return FillAnswer::Refused(Refusal::TableLength);
+    }
+    let k = Placed {
+        along: 0,
+        across: 0,
+        turned: false,
+        back: false,
+        a: w,
+        b: h,
+    };
+    let blocks = fill_block(table, k, area, 0, by_square);
+    FillAnswer::Filled { blocks: blocks }
+}
+
+// Place i gets y·w + x of square number i.
+pub fn fill_by_number(area: Area, table: &mut [u32]) -> FillAnswer
+    ensures { λ r. ⌜ (fill-figures r ≡ fill (area .w) (area .h) (now (table .entry)))
+        × (now (table .exit) ≡ unless-refused (fill (area .w) (area .h) (now (table .entry))) (by-number (area .w) (area .h)) (now (table .entry))) ⌝ }
+{
+    fill_whole(area, table, false)
+}
+
+// Place y·w + x gets the square's number.
+pub fn fill_by_square(area: Area, table: &mut [u32]) -> FillAnswer
+    ensures { λ r. ⌜ (fill-figures r ≡ fill (area .w) (area .h) (now (table .entry)))
+        × (now (table .exit) ≡ unless-refused (fill (area .w) (area .h) (now (table .entry))) (by-square (area .w) (area .h)) (now (table .entry))) ⌝ }
+{
+    fill_whole(area, table, true)
+}
