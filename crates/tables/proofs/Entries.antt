@@ -1,5 +1,5 @@
 -- Entries in a table: those of two lists in a row are those of the lists joined, and a block's places lie in its area's table.
-use mathlib.Core.Bool.{Bool, cond}
+use mathlib.Core.Bool.{Bool, true, false, cond}
 use mathlib.Core.List.{List, [], _∷_, _++_, map, map-append}
 use mathlib.Core.Path.{_≡_, refl, sym, ap, subst, _∙_}
 use Prim.Native.Nat.{ℕ, zero, suc, _+_, _*_, _≤_, _<_}
@@ -16,20 +16,25 @@ use Rattle.division.proofs.Plane.{moved-none}
 use Rattle.division.proofs.Descent.{row-more}
 use Rattle.division.proofs.Local.{Within, spot, spot-inside}
 use Rattle.division.proofs.Walks.{run-moved, inside-grow}
-use Rattle.tables.specs.Walk.{place, entered, entered-all, walked, Fills}
+use Rattle.tables.specs.Walk.{place, over, over-block, entered, Fills}
 
-pub entered-length : (by-square : Bool) (t : List ℕ) (n : ℕ) (ps : List ℕ) → length (entered-all by-square t n ps) ≡ length t
-unfolding entered-all
+-- a square's place in a table of either kind
+pub either-below : (n p size : ℕ) (by-square : Bool) → n < size → p < size → cond by-square p n < size
+either-below n p size true l m = m
+either-below n p size false l m = l
+
+pub entered-length : (by-square : Bool) (t : List ℕ) (n : ℕ) (ps : List ℕ) → length (over (entered by-square) t n ps) ≡ length t
+unfolding over
 entered-length by-square t n [] = refl
 entered-length by-square t n (p ∷ ps) = entered-length by-square (entered by-square t n p) (suc n) ps ∙ length-set t (cond by-square p n) (cond by-square n p)
 
-pub entered-append : (by-square : Bool) (t : List ℕ) (n : ℕ) (ps qs : List ℕ)
-    → entered-all by-square t n (ps ++ qs) ≡ entered-all by-square (entered-all by-square t n ps) (n + length ps) qs
-unfolding entered-all
-entered-append by-square t n [] qs = ap (λ m. entered-all by-square t m qs) (sym (add-zero n))
-entered-append by-square t n (p ∷ ps) qs =
-    entered-append by-square (entered by-square t n p) (suc n) ps qs
-    ∙ ap (λ m. entered-all by-square (entered-all by-square (entered by-square t n p) (suc n) ps) m qs) (suc-add n (length ps) ∙ sym (add-suc n (length ps)))
+-- two lists in a row are the lists joined
+pub over-append : {S : Type 0} (step : S → ℕ → ℕ → S) (state : S) (n : ℕ) (ps qs : List ℕ) → over step state n (ps ++ qs) ≡ over step (over step state n ps) (n + length ps) qs
+unfolding over
+over-append step state n [] qs = ap (λ m. over step state m qs) (sym (add-zero n))
+over-append step state n (p ∷ ps) qs =
+    over-append step (step state n p) (suc n) ps qs
+    ∙ ap (λ m. over step (over step (step state n p) (suc n) ps) m qs) (suc-add n (length ps) ∙ sym (add-suc n (length ps)))
 
 row-count : (d : Direction) (n : ℕ) (s : Square) → length (row d n s) ≡ n
 unfolding row
@@ -37,15 +42,14 @@ row-count d zero s = refl
 row-count d (suc n) s = ap suc (row-count d n (moved d 1 s))
 
 -- one square of a row more
-pub row-entered : (by-square : Bool) (w : ℕ) (t : List ℕ) (at : ℕ) (d : Direction) (i : ℕ) (s : Square)
-    → entered-all by-square t at (map (place w) (row d (suc i) s))
-    ≡ entered by-square (entered-all by-square t at (map (place w) (row d i s))) (at + i) (place w (moved d i s))
-unfolding entered-all
-row-entered by-square w t at d i s =
-    ap (λ zs. entered-all by-square t at (map (place w) zs)) (row-more d i s)
-    ∙ ap (entered-all by-square t at) (map-append (place w) (row d i s) (moved d i s ∷ []))
-    ∙ entered-append by-square t at (map (place w) (row d i s)) (place w (moved d i s) ∷ [])
-    ∙ ap (λ m. entered by-square (entered-all by-square t at (map (place w) (row d i s))) (at + m) (place w (moved d i s))) (length-map (row d i s) (place w) ∙ row-count d i s)
+pub row-over : {S : Type 0} (step : S → ℕ → ℕ → S) (state : S) (w at : ℕ) (d : Direction) (i : ℕ) (s : Square)
+    → over step state at (map (place w) (row d (suc i) s)) ≡ step (over step state at (map (place w) (row d i s))) (at + i) (place w (moved d i s))
+unfolding over
+row-over step state w at d i s =
+    ap (λ zs. over step state at (map (place w) zs)) (row-more d i s)
+    ∙ ap (over step state at) (map-append (place w) (row d i s) (moved d i s ∷ []))
+    ∙ over-append step state at (map (place w) (row d i s)) (place w (moved d i s) ∷ [])
+    ∙ ap (λ m. step (over step state at (map (place w) (row d i s))) (at + m) (place w (moved d i s))) (length-map (row d i s) (place w) ∙ row-count d i s)
 
 -- a square of the area has its place in the table
 pub place-below : (w h : ℕ) (s : Square) → Within w h s → place w s < w * h
@@ -90,8 +94,9 @@ module _ (k : Placed) {w h : ℕ} {t : List ℕ} {at : ℕ} (f : Fills w h t (bl
         subst (λ (s : Square). place w s < w * h) (moved-none (block k .side) (moved (block k .run) i (block k .start)))
         (spot-below (square i 0) (record { run = l; side = let one = one-wide in omega arith }))
 
-  pub run-filled : (by-square : Bool) → choice (k .a) (k .b) ≡ StraightRun
-      → (entered-all by-square t at (map (place w) (row (block k .run) (k .a) (block k .start))) ≡ walked by-square w t (block k) at) × (1 ≡ length (blocks (block k)))
-  run-filled by-square c =
-      let is = rule (block k) StraightRun (f .inside .sized) c in
-      (ap (λ zs. entered-all by-square t at (map (place w) zs)) (sym (is .0)), sym (ap length (is .1)))
+  pub run-over : {S : Type 0} (step : S → ℕ → ℕ → S) (state : S) → choice (k .a) (k .b) ≡ StraightRun
+      → over step state at (map (place w) (row (block k .run) (k .a) (block k .start))) ≡ over-block step state w (block k) at
+  run-over step state c = ap (λ zs. over step state at (map (place w) zs)) (sym (rule (block k) StraightRun (f .inside .sized) c .0))
+
+  pub run-count : choice (k .a) (k .b) ≡ StraightRun → 1 ≡ length (blocks (block k))
+  run-count c = sym (ap length (rule (block k) StraightRun (f .inside .sized) c .1))

@@ -1,4 +1,5 @@
 pub mod Entries
+pub mod Checks
 pub mod Quads
 pub mod Parts
 pub mod Whole

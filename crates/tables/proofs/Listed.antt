@@ -14,7 +14,7 @@ use Rattle.division.proofs.Once.{length-curve, square-held, square-of-number, n
 use Rattle.division.proofs.Blocks.{whole-inside}
 use Rattle.division.proofs.Local.{Within, whole-holds, whole-within, getD-map-in}
 use Rattle.tables.specs.Tables.{places, by-number, by-square}
-use Rattle.tables.specs.Walk.{place, entered-all, walked}
+use Rattle.tables.specs.Walk.{place, over, entered, walked}
 use Rattle.tables.proofs.Entries.{entered-length}
 
 pub places-length : (f : ℕ → ℕ) (n : ℕ) → length (places f n) ≡ n
@@ -32,8 +32,8 @@ place-holds f (suc n) i l =
     (eq-or-lt-of-le (le-of-suc-le-suc l))
 
 -- by number: the places themselves, from the first number on
-numbers-entered : (t : List ℕ) (n : ℕ) (ps : List ℕ) → n + length ps ≡ length t → entered-all false t n ps ≡ take n t ++ ps
-unfolding entered-all
+numbers-entered : (t : List ℕ) (n : ℕ) (ps : List ℕ) → n + length ps ≡ length t → over (entered false) t n ps ≡ take n t ++ ps
+unfolding over
 numbers-entered t n [] e = sym (append-nil (take n t) ∙ take-all n t (omega arith))
 numbers-entered t n (p ∷ ps) e =
     numbers-entered (set t n p) (suc n) ps (suc-add n (length ps) ∙ sym (add-suc n (length ps)) ∙ e ∙ sym (length-set t n p))
@@ -41,15 +41,15 @@ numbers-entered t n (p ∷ ps) e =
     ∙ append-assoc (take n t) (p ∷ []) ps
 
 -- by square: a place that is not among those entered keeps its value, and one that is gets its number
-kept-place : (t : List ℕ) (n : ℕ) (ps : List ℕ) (p : ℕ) → ((j : ℕ) → j < length ps → getD ps j 0 ≡ p → ⊥) → getD (entered-all true t n ps) p 0 ≡ getD t p 0
-unfolding entered-all
+kept-place : (t : List ℕ) (n : ℕ) (ps : List ℕ) (p : ℕ) → ((j : ℕ) → j < length ps → getD ps j 0 ≡ p → ⊥) → getD (over (entered true) t n ps) p 0 ≡ getD t p 0
+unfolding over
 kept-place t n [] p other = refl
 kept-place t n (q ∷ ps) p other =
     kept-place (set t q n) (suc n) ps p (λ j l e. other (suc j) (omega arith) e) ∙ getD-set-other t q p n 0 (λ e. other 0 (omega arith) (sym e))
 
 square-entered : (t : List ℕ) (n : ℕ) (ps : List ℕ) (p i : ℕ) → p < length t → i < length ps → getD ps i 0 ≡ p
-    → ((j : ℕ) → j < length ps → getD ps j 0 ≡ p → j ≡ i) → getD (entered-all true t n ps) p 0 ≡ n + i
-unfolding entered-all
+    → ((j : ℕ) → j < length ps → getD ps j 0 ≡ p → j ≡ i) → getD (over (entered true) t n ps) p 0 ≡ n + i
+unfolding over
 square-entered t n [] p i l m e only = absurd (omega arith)
 square-entered t n (q ∷ ps) p zero l m e only =
     kept-place (set t q n) (suc n) ps p (λ j k f. let same = only (suc j) (omega arith) f in omega arith)

@@ -1,5 +1,4 @@
--- Filling a block part by part: each part has its room, its area is less, the entries of the parts in order are the block's, and so are their counts.
-use mathlib.Core.Bool.{Bool}
+-- A walk over a block part by part: each part has its room, its area is less, the parts' squares in order are the block's, and so are their counts.
 use mathlib.Core.List.{List, [], _∷_, _++_, map, map-append}
 use mathlib.Core.Path.{_≡_, refl, sym, ap, subst, subst⁻¹, _∙_}
 use Prim.Native.Nat.{ℕ, suc, _+_, _-_, _*_, _/_, _≤_, _<_}
@@ -19,8 +18,8 @@ use Rattle.division.proofs.Once.{length-curve}
 use Rattle.division.proofs.Blocks.{few-blocks}
 use Rattle.division.proofs.Descent.{part-inside, skip-fits}
 use Rattle.division.proofs.Walks.{Sums, sums}
-use Rattle.tables.specs.Walk.{place, entered-all, walked, exchanged, Fills}
-use Rattle.tables.proofs.Entries.{entered-append}
+use Rattle.tables.specs.Walk.{place, over, over-block, exchanged, Fills}
+use Rattle.tables.proofs.Entries.{over-append}
 
 -- one call on a part: its measure is less, and it has its room
 module _ {w h : ℕ} {t : List ℕ} {k : Block} {at : ℕ} (f : Fills w h t k at) (before : List Block) (q : Block) (after : List Block) (e : parts k ≡ before ++ (q ∷ after)) where
@@ -39,14 +38,14 @@ module _ {w h : ℕ} {t : List ℕ} {k : Block} {at : ℕ} (f : Fills w h t k at
             (record { w-limit = f .w-limit; h-limit = f .h-limit; inside = inside; size = same ∙ f .size; room = omega arith }),
       )
 
--- a block's entries where its curve begins with a part's
-walked-first : (by-square : Bool) (w : ℕ) (t : List ℕ) (k q : Block) (zs : List Square) (at : ℕ) → Sized q → curve k ≡ curve q ++ zs
-    → walked by-square w t k at ≡ entered-all by-square (walked by-square w t q at) (at + area q) (map (place w) zs)
-walked-first by-square w t k q zs at s e =
-    ap (λ ss. entered-all by-square t at (map (place w) ss)) e
-    ∙ ap (entered-all by-square t at) (map-append (place w) (curve q) zs)
-    ∙ entered-append by-square t at (map (place w) (curve q)) (map (place w) zs)
-    ∙ ap (λ n. entered-all by-square (walked by-square w t q at) (at + n) (map (place w) zs)) (length-map (curve q) (place w) ∙ length-curve q s)
+-- a block's squares where its curve begins with a part's
+first-over : {S : Type 0} (step : S → ℕ → ℕ → S) (state : S) (w : ℕ) (k q : Block) (zs : List Square) (at : ℕ) → Sized q → curve k ≡ curve q ++ zs
+    → over-block step state w k at ≡ over step (over-block step state w q at) (at + area q) (map (place w) zs)
+first-over step state w k q zs at s e =
+    ap (λ ss. over step state at (map (place w) ss)) e
+    ∙ ap (over step state at) (map-append (place w) (curve q) zs)
+    ∙ over-append step state at (map (place w) (curve q)) (map (place w) zs)
+    ∙ ap (λ n. over step (over-block step state w q at) (at + n) (map (place w) zs)) (length-map (curve q) (place w) ∙ length-curve q s)
 
 -- a count of blocks is a 64-bit number
 pub few : {w h : ℕ} {t : List ℕ} {k : Block} {at : ℕ} → Fills w h t k at → length (blocks k) < 8589934592
@@ -82,16 +81,17 @@ module _ (k : Placed) {w h : ℕ} {t : List ℕ} {at : ℕ} (f : Fills w h t (bl
       let all = mul-le-mul (f .w-limit) (f .h-limit) in
       (omega arith, omega arith)
 
-  pub long-filled : (by-square : Bool) (n m : ℕ) → n ≡ length (blocks (part First (block k))) → m ≡ length (blocks (part Second (block k)))
-      → (walked by-square w (walked by-square w t (part First (block k)) at) (part Second (block k)) (at + e * k .b) ≡ walked by-square w t (block k) at)
-      × (n + m + 1 ≡ length (blocks (block k)))
+  pub long-over : {S : Type 0} (step : S → ℕ → ℕ → S) (state : S)
+      → over-block step (over-block step state w (part First (block k)) at) w (part Second (block k)) (at + e * k .b) ≡ over-block step state w (block k) at
   unfolding part
-  long-filled by-square n m p q =
-      let is = rule (block k) LongCut (f .inside .sized) c in (
-        ap (λ a. walked by-square w (walked by-square w t (part First (block k)) at) (part Second (block k)) (at + a * k .b)) half
-            ∙ sym (walked-first by-square w t (block k) (part First (block k)) (curve (part Second (block k))) at sized-first (is .0)),
-        let sum = ap length (is .1) ∙ ap suc (length-append (blocks (part First (block k))) (blocks (part Second (block k)))) in omega arith,
-      )
+  long-over step state =
+      ap (λ a. over-block step (over-block step state w (part First (block k)) at) w (part Second (block k)) (at + a * k .b)) half
+      ∙ sym (first-over step state w (block k) (part First (block k)) (curve (part Second (block k))) at sized-first (rule (block k) LongCut (f .inside .sized) c .0))
+
+  pub long-count : (n m : ℕ) → n ≡ length (blocks (part First (block k))) → m ≡ length (blocks (part Second (block k))) → n + m + 1 ≡ length (blocks (block k))
+  long-count n m p q =
+      let sum = ap length (rule (block k) LongCut (f .inside .sized) c .1) ∙ ap suc (length-append (blocks (part First (block k))) (blocks (part Second (block k)))) in
+      omega arith
 
 -- the U cut
 module _ (k : Placed) {w h : ℕ} {t : List ℕ} {at : ℕ} (f : Fills w h t (block k) at) (c : choice (k .a) (k .b) ≡ UCut) (e : ℕ) (half : e ≡ even-half (k .b)) where
@@ -130,32 +130,33 @@ module _ (k : Placed) {w h : ℕ} {t : List ℕ} {at : ℕ} (f : Fills w h t (bl
       let all = mul-le-mul (f .w-limit) (f .h-limit) in
       sums at (k .a) (k .b) e (u-lengths (block k) (f .inside .sized) c .1) half (omega arith)
 
-  pub u-filled : (by-square : Bool) (l m n : ℕ)
-      → l ≡ length (blocks (part A (block k))) → m ≡ length (blocks (part B (block k))) → n ≡ length (blocks (part C (block k)))
-      → (walked by-square w
-      (walked by-square w (walked by-square w t (part A (block k)) at) (part B (block k)) (at + e * (k .a / 2)))
-      (part C (block k)) (at + e * (k .a / 2) + k .a * (k .b - e))
-      ≡ walked by-square w t (block k) at)
-      × (l + m + n + 1 ≡ length (blocks (block k)))
+  pub u-over : {S : Type 0} (step : S → ℕ → ℕ → S) (state : S)
+      → over-block step
+      (over-block step (over-block step state w (part A (block k)) at) w (part B (block k)) (at + e * (k .a / 2)))
+      w (part C (block k)) (at + e * (k .a / 2) + k .a * (k .b - e))
+      ≡ over-block step state w (block k) at
   unfolding part
-  u-filled by-square l m n p q r =
-      let is = rule (block k) UCut (f .inside .sized) c in
+  u-over step state =
+      let first = over-block step state w (part A (block k)) at in
       let rest = curve (part B (block k)) ++ curve (part C (block k)) in
-      let sum =
-      ap length (is .1)
-      ∙ ap suc (length-append (blocks (part A (block k))) (blocks (part B (block k)) ++ blocks (part C (block k)))
-      ∙ ap (λ x. length (blocks (part A (block k))) + x) (length-append (blocks (part B (block k))) (blocks (part C (block k))))) in (
-        ap (λ a. walked by-square w (walked by-square w (walked by-square w t (part A (block k)) at) (part B (block k)) (at + a * (k .a / 2))) (part C (block k)) (at + a * (k .a / 2) + k .a * (k .b - a))) half
-            ∙ sym
-            (walked-first by-square w t (block k) (part A (block k)) rest at sized-a (is .0)
-            ∙ ap (entered-all by-square (walked by-square w t (part A (block k)) at) (at + area (part A (block k)))) (map-append (place w) (curve (part B (block k))) (curve (part C (block k))))
-            ∙ entered-append by-square (walked by-square w t (part A (block k)) at) (at + area (part A (block k))) (map (place w) (curve (part B (block k)))) (map (place w) (curve (part C (block k))))
-            ∙ ap (λ x. entered-all by-square (walked by-square w (walked by-square w t (part A (block k)) at) (part B (block k)) (at + area (part A (block k)))) (at + area (part A (block k)) + x) (map (place w) (curve (part C (block k)))))
-            (length-map (curve (part B (block k))) (place w) ∙ length-curve (part B (block k)) sized-b)),
-        omega arith,
-      )
+      ap (λ a. over-block step (over-block step first w (part B (block k)) (at + a * (k .a / 2))) w (part C (block k)) (at + a * (k .a / 2) + k .a * (k .b - a))) half
+      ∙ sym
+      (first-over step state w (block k) (part A (block k)) rest at sized-a (rule (block k) UCut (f .inside .sized) c .0)
+      ∙ ap (over step first (at + area (part A (block k)))) (map-append (place w) (curve (part B (block k))) (curve (part C (block k))))
+      ∙ over-append step first (at + area (part A (block k))) (map (place w) (curve (part B (block k)))) (map (place w) (curve (part C (block k))))
+      ∙ ap (λ x. over step (over-block step first w (part B (block k)) (at + area (part A (block k)))) (at + area (part A (block k)) + x) (map (place w) (curve (part C (block k)))))
+      (length-map (curve (part B (block k))) (place w) ∙ length-curve (part B (block k)) sized-b))
 
--- a straight block with run and side exchanged: the same entries
+  pub u-count : (l m n : ℕ) → l ≡ length (blocks (part A (block k))) → m ≡ length (blocks (part B (block k))) → n ≡ length (blocks (part C (block k)))
+      → l + m + n + 1 ≡ length (blocks (block k))
+  u-count l m n p q r =
+      let sum =
+      ap length (rule (block k) UCut (f .inside .sized) c .1)
+      ∙ ap suc (length-append (blocks (part A (block k))) (blocks (part B (block k)) ++ blocks (part C (block k)))
+      ∙ ap (λ x. length (blocks (part A (block k))) + x) (length-append (blocks (part B (block k))) (blocks (part C (block k))))) in
+      omega arith
+
+-- a straight block with run and side exchanged: the same squares in the same order
 module _ (k : Placed) {w h : ℕ} {t : List ℕ} {at : ℕ} (f : Fills w h t (block k) at) (c : choice (k .a) (k .b) ≡ StraightSide) where
   exchanged-fills : Fills w h t (exchanged (block k)) at
   unfolding exchanged
@@ -182,12 +183,17 @@ module _ (k : Placed) {w h : ℕ} {t : List ℕ} {at : ℕ} (f : Fills w h t (bl
   side-call r there =
       subst⁻¹ (λ (j : Block). Fills w h t j at × (choice (j .a) (j .b) ≡ StraightRun)) there (exchanged-fills, exchanged-case)
 
-  pub side-filled : (by-square : Bool) (r : Placed) → block r ≡ exchanged (block k)
-      → (walked by-square w t (block r) at ≡ walked by-square w t (block k) at) × (length (blocks (block r)) ≡ length (blocks (block k)))
+  pub side-over : {S : Type 0} (step : S → ℕ → ℕ → S) (state : S) (r : Placed) → block r ≡ exchanged (block k) → over-block step state w (block r) at ≡ over-block step state w (block k) at
   unfolding exchanged
-  side-filled by-square r there =
-      let mine = rule (block k) StraightSide (f .inside .sized) c in
-      let other = rule (exchanged (block k)) StraightRun (exchanged-fills .inside .sized) exchanged-case in (
-        ap (λ zs. entered-all by-square t at (map (place w) zs)) (ap curve there ∙ other .0 ∙ sym (mine .0)),
-        ap (λ j. length (blocks j)) there ∙ ap length (other .1) ∙ sym (ap length (mine .1)),
-      )
+  side-over step state r there =
+      ap (λ zs. over step state at (map (place w) zs))
+      (ap curve there
+      ∙ rule (exchanged (block k)) StraightRun (exchanged-fills .inside .sized) exchanged-case .0
+      ∙ sym (rule (block k) StraightSide (f .inside .sized) c .0))
+
+  pub side-count : (r : Placed) → block r ≡ exchanged (block k) → length (blocks (block r)) ≡ length (blocks (block k))
+  unfolding exchanged
+  side-count r there =
+      ap (λ j. length (blocks j)) there
+      ∙ ap length (rule (exchanged (block k)) StraightRun (exchanged-fills .inside .sized) exchanged-case .1)
+      ∙ sym (ap length (rule (block k) StraightSide (f .inside .sized) c .1))

@@ -3,21 +3,21 @@ use mathlib.Core.Bool.{Bool, true, false, not, cond}
 use mathlib.Core.List.{List, [], _∷_, _++_, map}
 use mathlib.Core.Path.{_≡_, refl, sym, ap, ap₂, subst, _∙_}
 use Prim.Native.Nat.{ℕ, _+_, _*_, _≤_, _<_}
-use native.Mathlib.Numerals.{add-one, add-two}
+use native.Mathlib.Numerals.{add-one, add-two, add-three}
 use native.Mathlib.Omega.{arith}
 use lib.Dec.{lit<, lit≤}
 use lib.ListN.{length}
 use Rattle.division.specs.declared.Choice.the-variants.{StraightRun, UCut}
 use Rattle.division.specs.declared.Placed.{Placed}
 use Rattle.division.specs.Division.{Square, square, Direction, Block, choice, even-half, A, B, C, part, moved, row, curve, blocks}
-use Rattle.division.specs.Division.Inside.{Sized}
+use Rattle.division.specs.Division.Inside.{Sized, Inside}
 use Rattle.division.specs.Division.Rules.{rule}
 use Rattle.division.specs.Forms.{direction, block, stepped-to}
 use Rattle.division.proofs.Plane.{moved-none, moved-swap}
-use Rattle.division.proofs.Local.{spot}
+use Rattle.division.proofs.Local.{spot, spot-inside}
 use Rattle.division.proofs.Walks.{run-moved, side-moved}
-use Rattle.tables.specs.Walk.{place, entered, entered-all, walked, Fills}
-use Rattle.tables.proofs.Entries.{squares-fit, spot-below}
+use Rattle.tables.specs.Walk.{place, over, over-block, Fills}
+use Rattle.tables.proofs.Entries.{place-below, squares-fit}
 
 -- the four squares of a 2 by 2 block, up the side and down again
 abbrev corners : Block → List Square
@@ -58,9 +58,9 @@ both-moved along across true false = refl
 both-moved along across true true = refl
 
 -- the corners of a placed 2 by 2 block, as its code has them
-module _ (k : Placed) {w h : ℕ} {t : List ℕ} {at : ℕ} (f : Fills w h t (block k) at) (ea : k .a ≡ 2) (eb : k .b ≡ 2) where
+module _ (k : Placed) {w h : ℕ} (i : Inside w h (block k)) (ea : k .a ≡ 2) (eb : k .b ≡ 2) where
   corner : (u v : ℕ) → u < 2 → v < 2 → place w (spot (block k) (square u v)) < w * h
-  corner u v l m = spot-below k f (square u v) (record { run = omega arith; side = omega arith })
+  corner u v l m = place-below w h (spot (block k) (square u v)) (spot-inside w h (block k) i (square u v) (record { run = omega arith; side = omega arith }))
 
   pub below-first : place w (block k .start) < w * h
   unfolding spot
@@ -76,18 +76,12 @@ module _ (k : Placed) {w h : ℕ} {t : List ℕ} {at : ℕ} (f : Fills w h t (bl
   pub below-third : place w (moved (block k .run) 1 (moved (block k .side) 1 (block k .start))) < w * h
   unfolding spot
   below-third =
-      subst (λ (s : Square). place w s < w * h) (sym (moved-swap (f .inside .paired) 1 1 (block k .start))) (corner 1 1 (lit< tt) (lit< tt))
+      subst (λ (s : Square). place w s < w * h) (sym (moved-swap (i .paired) 1 1 (block k .start))) (corner 1 1 (lit< tt) (lit< tt))
 
   pub below-fourth : place w (moved (block k .run) 1 (block k .start)) < w * h
   unfolding spot
   below-fourth =
       subst (λ (s : Square). place w s < w * h) (moved-none (block k .side) (moved (block k .run) 1 (block k .start))) (corner 1 0 (lit< tt) (lit< tt))
-
-  pub numbers : (at + 4 ≤ w * h) × (w * h < 4294967296)
-  numbers =
-      let all : k .a * k .b ≡ 4 = ap₂ _*_ ea eb in
-      let room = f .room in
-      (omega arith, squares-fit k f)
 
   module _ (far up : ℕ) (ef : far ≡ stepped-to (k .along) 1 (k .back)) (eu : up ≡ stepped-to (k .across) 1 (k .back)) where
     pub second-is : place w (cond (k .turned) (square up (k .along)) (square (k .along) up)) ≡ place w (moved (block k .side) 1 (block k .start))
@@ -105,15 +99,24 @@ module _ (k : Placed) {w h : ℕ} {t : List ℕ} {at : ℕ} (f : Fills w h t (bl
         ap (place w)
         (ap (λ n. cond (k .turned) (square (k .across) n) (square n (k .across))) ef ∙ run-moved (k .along) (k .across) (k .turned) (k .back) 1)
 
-  pub quad-filled : (by-square : Bool)
-      → (entered by-square
-      (entered by-square
-      (entered by-square (entered by-square t at (place w (block k .start))) (at + 1) (place w (moved (block k .side) 1 (block k .start))))
+-- a fill of a 2 by 2 block
+module _ (k : Placed) {w h : ℕ} {t : List ℕ} {at : ℕ} (f : Fills w h t (block k) at) (ea : k .a ≡ 2) (eb : k .b ≡ 2) where
+  pub numbers : (at + 4 ≤ w * h) × (w * h < 4294967296)
+  numbers =
+      let all : k .a * k .b ≡ 4 = ap₂ _*_ ea eb in
+      let room = f .room in
+      (omega arith, squares-fit k f)
+
+  pub quad-over : {S : Type 0} (step : S → ℕ → ℕ → S) (state : S) (last : ℕ) → last ≡ at + 3
+      → step
+      (step
+      (step (step state at (place w (block k .start))) (at + 1) (place w (moved (block k .side) 1 (block k .start))))
       (at + 2) (place w (moved (block k .run) 1 (moved (block k .side) 1 (block k .start)))))
-      (at + 2 + 1) (place w (moved (block k .run) 1 (block k .start)))
-      ≡ walked by-square w t (block k) at)
-      × (4 ≡ length (blocks (block k)))
-  unfolding entered-all
-  quad-filled by-square =
-      let is = two-by-two (block k) ea eb in
-      (simp (add-one, add-two) (ap (λ zs. entered-all by-square t at (map (place w) zs)) (sym (is .0))), sym (is .1))
+      last (place w (moved (block k .run) 1 (block k .start)))
+      ≡ over-block step state w (block k) at
+  unfolding over
+  quad-over step state last is =
+      rw is (simp (add-one, add-two, add-three) (ap (λ zs. over step state at (map (place w) zs)) (sym (two-by-two (block k) ea eb .0))))
+
+  pub quad-count : 4 ≡ length (blocks (block k))
+  quad-count = sym (two-by-two (block k) ea eb .1)

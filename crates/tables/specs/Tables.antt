@@ -8,6 +8,7 @@ use Rattle.terms.specs.declared.Refusal.the-variants.{AreaLimit, TableLength, T
 use Rattle.terms.specs.Terms.{accepted, Figures, answered, refused}
 use Rattle.division.specs.Division.{square, whole, curve, blocks, square-of, number-of, blocks-holding, count}
 use Rattle.tables.specs.declared.FillAnswer as FillAnswers
+use Rattle.tables.specs.declared.CheckAnswer as CheckAnswers
 
 -- The table of n places that holds f p at each place p.
 unfoldable pub places : (ℕ → ℕ) → (n : ℕ) → List ℕ
@@ -43,3 +44,18 @@ fill w h table = on-table w h table 1 (answered (length (blocks (whole w h)) ∷
 abbrev pub fill-figures : FillAnswers.FillAnswer → Figures
 fill-figures (FillAnswers.the-variants.Filled blocks) = answered (blocks ∷ [])
 fill-figures (FillAnswers.the-variants.Refused r) = refused r 1
+
+-- "check a table of either kind: right, or the first wrong place and the value due there", as three values: 0 or 1, the place, the value due.
+unfoldable pub judged : (place : ℕ) (due table : List ℕ) → List ℕ
+judged place [] vs = 0 ∷ 0 ∷ 0 ∷ []
+judged place (d ∷ ds) [] = 0 ∷ 0 ∷ 0 ∷ []
+judged place (d ∷ ds) (v ∷ vs) = cond (eqb v d) (judged (suc place) ds vs) (1 ∷ place ∷ d ∷ [])
+
+unfoldable pub check : (w h : ℕ) → (due table : List ℕ) → Figures
+check w h due table = on-table w h table 3 (answered (judged 0 due table))
+
+-- The figures of a check's answer.
+abbrev pub check-figures : CheckAnswers.CheckAnswer → Figures
+check-figures CheckAnswers.the-variants.Right = answered (0 ∷ 0 ∷ 0 ∷ [])
+check-figures (CheckAnswers.the-variants.Wrong place due) = answered (1 ∷ place ∷ due ∷ [])
+check-figures (CheckAnswers.the-variants.Refused r) = refused r 3

@@ -9,13 +9,21 @@ ghost use Prim.Native.Nat.{_+_, _*_, _≤_, _<_};
 ghost use lib.ListN.{length};
 ghost use Rattle.division.specs.declared.Choice.the-variants.{StraightRun, StraightSide, LongCut, UCut};
 ghost use Rattle.division.specs.Division.{square, choice, blocks, whole};
+ghost use Rattle.division.specs.Division.Inside.{Inside};
 ghost use Rattle.division.specs.Forms.{block};
 ghost use Rattle.tables.specs.Tables.{by-number, by-square, unless-refused, fill, fill-figures};
-ghost use Rattle.tables.specs.Walk.{place, entered, walked, exchanged, Fills};
+ghost use Rattle.tables.specs.Walk.{place, entered, walked, exchanged, Cornered, Fills, least-one, checked};
 
 // What a fill answers.
 pub enum FillAnswer {
     Filled { blocks: u64 },
+    Refused(Refusal),
+}
+
+// What a check answers.
+pub enum CheckAnswer {
+    Right,
+    Wrong { place: u32, due: u32 },
     Refused(Refusal),
 }
 
@@ -72,20 +80,37 @@ fn enter_two(table: &mut [u32], n: u32, p: u32, q: u32, by_square: bool)
     enter(table, n + 1, q, by_square);
 }
 
+// The places of the four squares of a 2 by 2 block, in the curve's order.
+struct Quad {
+    p: u32,
+    q: u32,
+    r: u32,
+    s: u32,
+}
+
+fn quad_places(k: Placed, area: Area) -> Quad
+    requires { ⌜ Inside (area .w) (area .h) (block k) × (area .w ≤ 65535) × (area .h ≤ 65535) × (k .a ≡ 2) × (k .b ≡ 2) ⌝ }
+    ensures { λ r. ⌜ Cornered (area .w) (block k) (r .p) (r .q) (r .r) (r .s) ⌝ }
+{
+    let w = area.w;
+    let far = division::stepped(k.along, 1, k.back);
+    let up = division::stepped(k.across, 1, k.back);
+    Quad {
+        p: place_of(k.along, k.across, k.turned, w),
+        q: place_of(k.along, up, k.turned, w),
+        r: place_of(far, up, k.turned, w),
+        s: place_of(far, k.across, k.turned, w),
+    }
+}
+
 // The four squares of a 2 by 2 block, at once: most of a large area's squares lie in one.
 fn fill_quad(table: &mut [u32], k: Placed, area: Area, at: u32, by_square: bool) -> u64
     requires { ⌜ Fills (area .w) (area .h) (now table) (block k) at × (k .a ≡ 2) × (k .b ≡ 2) ⌝ }
     ensures { λ r. ⌜ (now (table .exit) ≡ walked «by_square» (area .w) (now (table .entry)) (block k) at) × (r ≡ length (blocks (block k))) ⌝ }
 {
-    let w = area.w;
-    let far = division::stepped(k.along, 1, k.back);
-    let up = division::stepped(k.across, 1, k.back);
-    let p = place_of(k.along, k.across, k.turned, w);
-    let q = place_of(k.along, up, k.turned, w);
-    let r = place_of(far, up, k.turned, w);
-    let s = place_of(far, k.across, k.turned, w);
-    enter_two(table, at, p, q, by_square);
-    enter_two(table, at + 2, r, s, by_square);
+    let to = quad_places(k, area);
+    enter_two(table, at, to.p, to.q, by_square);
+    enter_two(table, at + 2, to.r, to.s, by_square);
     4
 }
 
@@ -182,4 +207,110 @@ pub fn fill_by_square(area: Area, table: &mut [u32]) -> FillAnswer
         × (now (table .exit) ≡ unless-refused (fill (area .w) (area .h) (now (table .entry))) (by-square (area .w) (area .h)) (now (table .entry))) ⌝ }
 {
     fill_whole(area, table, true)
+}
+
+// The least wrong place so far, with square number n, which has the place p, looked at.
+fn compare(table: &[u32], n: u32, p: u32, by_square: bool, least: u32) -> u32
+    requires { ⌜ (n < length (now table)) × (p < length (now table)) ⌝ }
+    ensures { λ r. ⌜ r ≡ least-one «by_square» (now (table .entry)) least n p ⌝ }
+{
+    let place = division::either(by_square, p, n);
+    let i = place as usize;
+    if table[i] == division::either(by_square, n, p) {
+        return least;
+    }
+    division::either(place < least, place, least)
+}
+
+// The squares of a straight block, which follow in its run.
+fn check_run(table: &[u32], k: Placed, area: Area, at: u32, by_square: bool, so_far: u32) -> u32
+    requires { ⌜ Fills (area .w) (area .h) (now table) (block k) at × (choice (k .a) (k .b) ≡ StraightRun) ⌝ }
+    ensures { λ r. ⌜ r ≡ checked «by_square» (area .w) (now (table .entry)) (block k) at «so_far» ⌝ }
+{
+    let w = area.w;
+    let mut least = so_far;
+    for i in 0..k.a {
+        let p = place_of(division::stepped(k.along, i, k.back), k.across, k.turned, w);
+        least = compare(table, at + i, p, by_square, least);
+    }
+    least
+}
+
+// The four squares of a 2 by 2 block, at once.
+fn check_quad(table: &[u32], k: Placed, area: Area, at: u32, by_square: bool, so_far: u32) -> u32
+    requires { ⌜ Fills (area .w) (area .h) (now table) (block k) at × (k .a ≡ 2) × (k .b ≡ 2) ⌝ }
+    ensures { λ r. ⌜ r ≡ checked «by_square» (area .w) (now (table .entry)) (block k) at «so_far» ⌝ }
+{
+    let of = quad_places(k, area);
+    let first = compare(table, at, of.p, by_square, so_far);
+    let second = compare(table, at + 1, of.q, by_square, first);
+    let third = compare(table, at + 2, of.r, by_square, second);
+    compare(table, at + 3, of.s, by_square, third)
+}
+
+// A block by its case. It and the two cuts call each other; the block's area falls.
+fn check_block(table: &[u32], k: Placed, area: Area, at: u32, by_square: bool, so_far: u32) -> u32
+    requires { ⌜ Fills (area .w) (area .h) (now table) (block k) at ⌝ }
+    ensures { λ r. ⌜ r ≡ checked «by_square» (area .w) (now (table .entry)) (block k) at «so_far» ⌝ }
+{
+    let a = k.a;
+    let b = k.b;
+    let case = division::choose(a, b);
+    match case {
+        Choice::StraightRun => check_run(table, k, area, at, by_square, so_far),
+        Choice::StraightSide => check_run(table, exchanged_block(k), area, at, by_square, so_far),
+        Choice::LongCut => check_long_cut(table, k, area, at, by_square, so_far),
+        Choice::UCut => {
+            if a == 2 {
+                if b == 2 {
+                    return check_quad(table, k, area, at, by_square, so_far);
+                }
+            }
+            check_u_cut(table, k, area, at, by_square, so_far)
+        }
+    }
+}
+
+// The two parts of a long cut.
+fn check_long_cut(
+    table: &[u32],
+    k: Placed,
+    area: Area,
+    at: u32,
+    by_square: bool,
+    so_far: u32,
+) -> u32
+    requires { ⌜ Fills (area .w) (area .h) (now table) (block k) at × (choice (k .a) (k .b) ≡ LongCut) ⌝ }
+    ensures { λ r. ⌜ r ≡ checked «by_square» (area .w) (now (table .entry)) (block k) at «so_far» ⌝ }
+{
+    let to_second = at + division::even_half(k.a) * k.b;
+    let first = check_block(
+        table,
+        division::long_part(k, false),
+        area,
+        at,
+        by_square,
+        so_far,
+    );
+    check_block(
+        table,
+        division::long_part(k, true),
+        area,
+        to_second,
+        by_square,
+        first,
+    )
+}
+
+// The three parts of a U cut.
+fn check_u_cut(table: &[u32], k: Placed, area: Area, at: u32, by_square: bool, so_far: u32) -> u32
+    requires { ⌜ Fills (area .w) (area .h) (now table) (block k) at × (choice (k .a) (k .b) ≡ UCut) ⌝ }
+    ensures { λ r. ⌜ r ≡ checked «by_square» (area .w) (now (table .entry)) (block k) at «so_far» ⌝ }
+{
+    let e = division::even_half(k.b);
+    let to_b = at + e * (k.a / 2);
+    let to_c = to_b + k.a * (k.b - e);
+    let a = check_block(table, division::part_a(k), area, at, by_square, so_far);
+    let b = check_block(table, division::part_b(k), area, to_b, by_square, a);
+    check_block(table, division::part_c(k), area, to_c, by_square, b)
 }

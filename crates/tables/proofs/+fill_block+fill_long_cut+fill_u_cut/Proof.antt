@@ -7,9 +7,9 @@ use lib.ListN.{length}
 use Rattle.division.specs.Division.{blocks}
 use Rattle.division.specs.Forms.{block}
 use Rattle.division.proofs.Walks.{a-limit, b-limit}
-use Rattle.tables.specs.Walk.{walked}
+use Rattle.tables.specs.Walk.{entered, walked}
 use Rattle.tables.proofs.Entries.{largest}
-use Rattle.tables.proofs.Parts.{few, first-call, second-call, second-number, long-filled, a-call, b-call, c-call, u-numbers, u-filled, side-call, side-filled}
+use Rattle.tables.proofs.Parts.{few, first-call, second-call, second-number, long-over, long-count, a-call, b-call, c-call, u-numbers, u-over, u-count, side-call, side-over, side-count}
 use borrow.Fn.Kinds.{In}
 use borrow.Fn.PlainCycle.{Measures, is, falls, and}
 use Rattle.tables.proofs.fill_block.Reads as fill-block
@@ -132,8 +132,13 @@ fill-block-same-length-3 t c = c .before .before .fill-run2 .kept .0
 
 fill-block-returns-3 : (t : ℕ) → fill-block-lts.Need-returns-3 (fill-block-calls t) (fill-block-at t) fill-block.Post
 fill-block-returns-3 t c =
-    let same = side-filled (c .before .before .before .before .before .before .before .before .before .args .k) (c .before .before .before .before .before .before .before .before .before .pre .1) (sym (c .before .before .before .before .before .before .before .choose .ensures) ∙ c .before .before .before .before .before .enum-told2 .given .1) (c .before .before .before .before .before .before .before .before .before .args .by-square) (c .before .before .before .exchanged-block .result) (c .before .before .before .exchanged-block .ensures) in
-    (c .before .before .fill-run2 .ensures .0 ∙ same .0, c .before .before .fill-run2 .ensures .1 ∙ same .1)
+    let k = c .before .before .before .before .before .before .before .before .before .args .k in
+    let f = c .before .before .before .before .before .before .before .before .before .pre .1 in
+    let is = sym (c .before .before .before .before .before .before .before .choose .ensures) ∙ c .before .before .before .before .before .enum-told2 .given .1 in
+    let r = c .before .before .before .exchanged-block in (
+      c .before .before .fill-run2 .ensures .0 ∙ side-over k f is (entered (c .before .before .before .before .before .before .before .before .before .args .by-square)) (c .before .before .before .before .before .before .before .before .before .args .table .now) (r .result) (r .ensures),
+      c .before .before .fill-run2 .ensures .1 ∙ side-count k f is (r .result) (r .ensures),
+    )
 
 fill-block-same-length-4 : (t : ℕ) → fill-block-lts.Need-same-length-4 (fill-block-calls t) (fill-block-at t) fill-block.Post
 fill-block-same-length-4 t c = c .before .before .fill-long-cut .kept .0
@@ -196,15 +201,13 @@ fill-long-cut-returns t c =
     let by-square = c .before .before .before .before .before .before .before .before .before .before .before .before .before .args .by-square in
     let w = c .before .before .before .before .before .before .before .before .before .before .before .before .before .args .area .w in
     let first = c .before .before .before .before .before .before .before .before .long-part .ensures in
-    let second = c .before .before .before .long-part2 .ensures in
-    let filled =
-    long-filled (c .before .before .before .before .before .before .before .before .before .before .before .before .before .args .k) (c .before .before .before .before .before .before .before .before .before .before .before .before .before .pre .1 .0) (c .before .before .before .before .before .before .before .before .before .before .before .before .before .pre .1 .1) (c .before .before .before .before .before .before .before .before .before .before .before .even-half .result) (c .before .before .before .before .before .before .before .before .before .before .before .even-half .ensures) by-square (c .before .before .before .before .before .before .before .fill-block .result) (c .before .before .fill-block2 .result)
-    (c .before .before .before .before .before .before .before .fill-block .ensures .1 ∙ ap (λ j. length (blocks j)) first) (c .before .before .fill-block2 .ensures .1 ∙ ap (λ j. length (blocks j)) second) in (
+    let second = c .before .before .before .long-part2 .ensures in (
       c .before .before .fill-block2 .ensures .0
           ∙ ap₂ (λ t j. walked by-square w t j (c .before .before .before .before .before .before .before .before .before .before .before .before .before .args .at + c .before .before .before .before .before .before .before .before .before .before .before .even-half .result * c .before .before .before .before .before .before .before .before .before .before .before .before .before .args .k .b))
           (c .before .before .before .before .before .before .before .fill-block .ensures .0 ∙ ap (λ j. walked by-square w (c .before .before .before .before .before .before .before .before .before .before .before .before .before .args .table .now) j (c .before .before .before .before .before .before .before .before .before .before .before .before .before .args .at)) first) second
-          ∙ filled .0,
-      filled .1,
+          ∙ long-over (c .before .before .before .before .before .before .before .before .before .before .before .before .before .args .k) (c .before .before .before .before .before .before .before .before .before .before .before .before .before .pre .1 .0) (c .before .before .before .before .before .before .before .before .before .before .before .before .before .pre .1 .1) (c .before .before .before .before .before .before .before .before .before .before .before .even-half .result) (c .before .before .before .before .before .before .before .before .before .before .before .even-half .ensures) (entered by-square) (c .before .before .before .before .before .before .before .before .before .before .before .before .before .args .table .now),
+      long-count (c .before .before .before .before .before .before .before .before .before .before .before .before .before .args .k) (c .before .before .before .before .before .before .before .before .before .before .before .before .before .pre .1 .0) (c .before .before .before .before .before .before .before .before .before .before .before .before .before .pre .1 .1) (c .before .before .before .before .before .before .before .before .before .before .before .even-half .result) (c .before .before .before .before .before .before .before .before .before .before .before .even-half .ensures) (c .before .before .before .before .before .before .before .fill-block .result) (c .before .before .fill-block2 .result)
+          (c .before .before .before .before .before .before .before .fill-block .ensures .1 ∙ ap (λ j. length (blocks j)) first) (c .before .before .fill-block2 .ensures .1 ∙ ap (λ j. length (blocks j)) second),
     )
 
 fill-u-cut-even-half-requires : (t : ℕ) → fill-u-cut-lts.Need-even-half-requires (fill-u-cut-calls t) (fill-u-cut-at t) fill-u-cut.Post
@@ -291,16 +294,14 @@ fill-u-cut-returns t c =
     let e = c .before .before .before .before .before .before .before .before .before .before .before .before .before .before .before .before .before .before .even-half .result in
     let a = c .before .before .before .before .before .before .before .before .before .before .before .before .before .part-a .ensures in
     let b = c .before .before .before .before .before .before .before .before .part-b .ensures in
-    let d = c .before .before .before .part-c .ensures in
-    let filled =
-    u-filled (c .before .before .before .before .before .before .before .before .before .before .before .before .before .before .before .before .before .before .before .before .args .k) (c .before .before .before .before .before .before .before .before .before .before .before .before .before .before .before .before .before .before .before .before .pre .1 .0) (c .before .before .before .before .before .before .before .before .before .before .before .before .before .before .before .before .before .before .before .before .pre .1 .1) (c .before .before .before .before .before .before .before .before .before .before .before .before .before .before .before .before .before .before .even-half .result) (c .before .before .before .before .before .before .before .before .before .before .before .before .before .before .before .before .before .before .even-half .ensures) by-square (c .before .before .before .before .before .before .before .before .before .before .before .before .fill-block .result) (c .before .before .before .before .before .before .before .fill-block2 .result) (c .before .before .fill-block3 .result)
-    (c .before .before .before .before .before .before .before .before .before .before .before .before .fill-block .ensures .1 ∙ ap (λ j. length (blocks j)) a) (c .before .before .before .before .before .before .before .fill-block2 .ensures .1 ∙ ap (λ j. length (blocks j)) b) (c .before .before .fill-block3 .ensures .1 ∙ ap (λ j. length (blocks j)) d) in (
+    let d = c .before .before .before .part-c .ensures in (
       c .before .before .fill-block3 .ensures .0
           ∙ ap₂ (λ t j. walked by-square w t j (at + e * (k .a / 2) + k .a * (k .b - e)))
           (c .before .before .before .before .before .before .before .fill-block2 .ensures .0
           ∙ ap₂ (λ t j. walked by-square w t j (at + e * (k .a / 2))) (c .before .before .before .before .before .before .before .before .before .before .before .before .fill-block .ensures .0 ∙ ap (λ j. walked by-square w (c .before .before .before .before .before .before .before .before .before .before .before .before .before .before .before .before .before .before .before .before .args .table .now) j at) a) b) d
-          ∙ filled .0,
-      filled .1,
+          ∙ u-over (c .before .before .before .before .before .before .before .before .before .before .before .before .before .before .before .before .before .before .before .before .args .k) (c .before .before .before .before .before .before .before .before .before .before .before .before .before .before .before .before .before .before .before .before .pre .1 .0) (c .before .before .before .before .before .before .before .before .before .before .before .before .before .before .before .before .before .before .before .before .pre .1 .1) (c .before .before .before .before .before .before .before .before .before .before .before .before .before .before .before .before .before .before .even-half .result) (c .before .before .before .before .before .before .before .before .before .before .before .before .before .before .before .before .before .before .even-half .ensures) (entered by-square) (c .before .before .before .before .before .before .before .before .before .before .before .before .before .before .before .before .before .before .before .before .args .table .now),
+      u-count (c .before .before .before .before .before .before .before .before .before .before .before .before .before .before .before .before .before .before .before .before .args .k) (c .before .before .before .before .before .before .before .before .before .before .before .before .before .before .before .before .before .before .before .before .pre .1 .0) (c .before .before .before .before .before .before .before .before .before .before .before .before .before .before .before .before .before .before .before .before .pre .1 .1) (c .before .before .before .before .before .before .before .before .before .before .before .before .before .before .before .before .before .before .even-half .result) (c .before .before .before .before .before .before .before .before .before .before .before .before .before .before .before .before .before .before .even-half .ensures) (c .before .before .before .before .before .before .before .before .before .before .before .before .fill-block .result) (c .before .before .before .before .before .before .before .fill-block2 .result) (c .before .before .fill-block3 .result)
+          (c .before .before .before .before .before .before .before .before .before .before .before .before .fill-block .ensures .1 ∙ ap (λ j. length (blocks j)) a) (c .before .before .before .before .before .before .before .fill-block2 .ensures .1 ∙ ap (λ j. length (blocks j)) b) (c .before .before .fill-block3 .ensures .1 ∙ ap (λ j. length (blocks j)) d),
     )
 
 pub +fill-block+fill-long-cut+fill-u-cut-spec : {M : Type 1} → statement M

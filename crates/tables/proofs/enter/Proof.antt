@@ -1,15 +1,11 @@
 -- `tables::enter` meets its contract: the place is n or p, and either is in the table.
 use borrow.Author.Needs.{needs}
-use mathlib.Core.Bool.{Bool, true, false, cond}
 use mathlib.Core.Path.{ap₂, subst⁻¹}
 use Prim.Native.Nat.{ℕ, _<_}
 use lib.ListN.{length, set}
+use Rattle.tables.proofs.Entries.{either-below}
 use Rattle.tables.proofs.enter.Statement.{statement}
 use Rattle.tables.proofs.enter.Tie as tie
-
-either-below : (n p size : ℕ) (by-square : Bool) → n < size → p < size → cond by-square p n < size
-either-below n p size true l m = m
-either-below n p size false l m = l
 
 either-requires : tie.Need-either-requires
 either-requires c κs = search needs
