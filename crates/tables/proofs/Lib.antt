@@ -4,3 +4,4 @@ pub mod Quads
 pub mod Parts
 pub mod Whole
 pub mod Listed
+pub mod Judged

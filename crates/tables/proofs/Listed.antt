@@ -1,5 +1,5 @@
 -- The two kinds of table as lists, place by place: what is entered for a whole area is what the lookups' definitions say.
-use mathlib.Core.Bool.{true, false}
+use mathlib.Core.Bool.{Bool, true, false, cond}
 use mathlib.Core.List.{List, [], _∷_, _++_, map, append-assoc, append-nil}
 use mathlib.Core.Logic.{⊎-elim}
 use mathlib.Core.Path.{_≡_, refl, sym, ap, subst, subst⁻¹, _∙_}
@@ -13,9 +13,9 @@ use Rattle.division.specs.Division.{Square, square, whole, curve, square-of, nu
 use Rattle.division.proofs.Once.{length-curve, square-held, square-of-number, number-of-square, number-below}
 use Rattle.division.proofs.Blocks.{whole-inside}
 use Rattle.division.proofs.Local.{Within, whole-holds, whole-within, getD-map-in}
-use Rattle.tables.specs.Tables.{places, by-number, by-square}
+use Rattle.tables.specs.Tables.{places, by-number, by-square, due-by}
 use Rattle.tables.specs.Walk.{place, over, entered, walked}
-use Rattle.tables.proofs.Entries.{entered-length}
+use Rattle.tables.proofs.Entries.{entered-length, place-below}
 
 pub places-length : (f : ℕ → ℕ) (n : ℕ) → length (places f n) ≡ n
 unfolding places
@@ -101,6 +101,49 @@ module _ (w h : ℕ) (a : 1 ≤ w) (b : 1 ≤ h) where
       ap (λ q. square (q % w) (q / w)) (sym is) ∙ square-there w (square-of (whole w h) j) (ps-square j l .run) in
       sym (ap (number-of (whole w h)) there ∙ number-of-square w h (whole w h) (whole-inside w h a b) j l)
 
+  number-there : (p : ℕ) → p < w * h → (number-of (whole w h) (square (p % w) (p / w)) < w * h) × (getD ps (number-of (whole w h) (square (p % w) (p / w))) 0 ≡ p)
+  unfolding whole
+  number-there p below =
+      let s = square (p % w) (p / w) in
+      let held = whole-holds w h s (within-there p below) in
+      let inside = whole-inside w h a b in
+      let i-below : number-of (whole w h) s < w * h = number-below w h (whole w h) inside s held in
+      (i-below, ps-at (number-of (whole w h) s) i-below ∙ ap (place w) (square-of-number w h (whole w h) inside s held) ∙ place-there w p)
+
+  ps-below : (j : ℕ) → j < w * h → getD ps j 0 < w * h
+  ps-below j l = subst⁻¹ (λ (p : ℕ). p < w * h) (ps-at j l) (place-below w h (square-of (whole w h) j) (ps-square j l))
+
+  -- A look at square number j, of a table of either kind: its place, and the value due there.
+  module _ (j : ℕ) (l : j < w * h) (n : ℕ) (e : n ≡ j) where
+    pub values-below : (n < w * h) × (getD (map (place w) (curve (whole w h))) j 0 < w * h)
+    unfolding ps
+    values-below = (subst⁻¹ (λ (m : ℕ). m < w * h) e l, ps-below j l)
+
+    pub due-there : (kind : Bool) → getD (due-by kind w h) (cond kind (getD (map (place w) (curve (whole w h))) j 0) n) 0 ≡ cond kind n (getD (map (place w) (curve (whole w h))) j 0)
+    unfolding ps by-number by-square
+    due-there false = ap (λ m. getD (by-number w h) m 0) e ∙ place-holds (λ i. square-of (whole w h) i .y * w + square-of (whole w h) i .x) (w * h) j l ∙ sym (ps-at j l)
+    due-there true =
+        place-holds (λ p. number-of (whole w h) (square (p % w) (p / w))) (w * h) (getD ps j 0) (ps-below j l) ∙ sym (only-number (getD ps j 0) j l refl) ∙ sym e
+
+  -- the square that is looked at for a place
+  pub looked-for : (kind : Bool) (i : ℕ) → ℕ
+  looked-for kind i = cond kind (number-of (whole w h) (square (i % w) (i / w))) i
+
+  pub looked-below : (kind : Bool) (i : ℕ) → i < w * h → looked-for kind i < w * h
+  unfolding looked-for
+  looked-below false i l = l
+  looked-below true i l = number-there i l .0
+
+  pub looked-at : (kind : Bool) (i : ℕ) → i < w * h → (n : ℕ) → n ≡ looked-for kind i → cond kind (getD (map (place w) (curve (whole w h))) (looked-for kind i) 0) n ≡ i
+  unfolding ps looked-for
+  looked-at false i l n e = e
+  looked-at true i l n e = number-there i l .1
+
+  pub due-length : (kind : Bool) → length (due-by kind w h) ≡ w * h
+  unfolding by-number by-square
+  due-length false = places-length (λ i. square-of (whole w h) i .y * w + square-of (whole w h) i .x) (w * h)
+  due-length true = places-length (λ p. number-of (whole w h) (square (p % w) (p / w))) (w * h)
+
   module _ (t : List ℕ) (size : length t ≡ w * h) where
     pub number-table : walked false w t (whole w h) 0 ≡ by-number w h
     unfolding ps by-number
@@ -117,13 +160,9 @@ module _ (w h : ℕ) (a : 1 ≤ w) (b : 1 ≤ h) where
         let long : length (walked true w t (whole w h) 0) ≡ w * h = entered-length true t 0 ps ∙ size in
         ext-getD 0 (walked true w t (whole w h) 0) (by-square w h) (long ∙ sym (places-length f (w * h)))
         (λ p l. let below : p < w * h = subst (λ (n : ℕ). p < n) long l in
-        let s = square (p % w) (p / w) in
-        let held = whole-holds w h s (within-there p below) in
-        let inside = whole-inside w h a b in
-        let i = number-of (whole w h) s in
-        let i-below : i < w * h = number-below w h (whole w h) inside s held in
-        let at : getD ps i 0 ≡ p = ps-at i i-below ∙ ap (place w) (square-of-number w h (whole w h) inside s held) ∙ place-there w p in
-        square-entered t 0 ps p i (subst⁻¹ (λ (n : ℕ). p < n) size below) (subst⁻¹ (λ (n : ℕ). i < n) ps-length i-below) at
+        let i = number-of (whole w h) (square (p % w) (p / w)) in
+        let there = number-there p below in
+        square-entered t 0 ps p i (subst⁻¹ (λ (n : ℕ). p < n) size below) (subst⁻¹ (λ (n : ℕ). i < n) ps-length (there .0)) (there .1)
         (λ j k e. only-number p j (subst (λ (n : ℕ). j < n) ps-length k) e)
         ∙ zero-add i
         ∙ sym (place-holds f (w * h) p below))

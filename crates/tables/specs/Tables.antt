@@ -51,6 +51,9 @@ judged place [] vs = 0 ∷ 0 ∷ 0 ∷ []
 judged place (d ∷ ds) [] = 0 ∷ 0 ∷ 0 ∷ []
 judged place (d ∷ ds) (v ∷ vs) = cond (eqb v d) (judged (suc place) ds vs) (1 ∷ place ∷ d ∷ [])
 
+abbrev pub due-by : (kind-by-square : Bool) (w h : ℕ) → List ℕ
+due-by kind-by-square w h = cond kind-by-square (by-square w h) (by-number w h)
+
 unfoldable pub check : (w h : ℕ) → (due table : List ℕ) → Figures
 check w h due table = on-table w h table 3 (answered (judged 0 due table))
 

@@ -27,10 +27,14 @@ entered by-square t n p = set t (cond by-square p n) (cond by-square n p)
 abbrev pub walked : (by-square : Bool) (w : ℕ) → List ℕ → Block → (at : ℕ) → List ℕ
 walked by-square w t k at = over-block (entered by-square) t w k at
 
+-- A wrong place and the value due there as one number: of two, the lesser place has the lesser number.
+abbrev pub wrong-at : (place due : ℕ) → ℕ
+wrong-at place due = place * 4294967296 + due
+
 -- The least wrong place so far, with square number n, at place p, looked at: by square n is due at p, else p at n. So, with a block's squares.
 abbrev pub least-one : (by-square : Bool) → List ℕ → (least n p : ℕ) → ℕ
 least-one by-square t least n p =
-    cond (eqb (getD t (cond by-square p n) 0) (cond by-square n p)) least (min least (cond by-square p n))
+    cond (eqb (getD t (cond by-square p n) 0) (cond by-square n p)) least (min least (wrong-at (cond by-square p n) (cond by-square n p)))
 
 abbrev pub checked : (by-square : Bool) (w : ℕ) → List ℕ → Block → (at least : ℕ) → ℕ
 checked by-square w t k at least = over-block (least-one by-square t) least w k at

@@ -210,20 +210,25 @@ pub fn fill_by_square(area: Area, table: &mut [u32]) -> FillAnswer
 }
 
 // The least wrong place so far, with square number n, which has the place p, looked at.
-fn compare(table: &[u32], n: u32, p: u32, by_square: bool, least: u32) -> u32
+fn compare(table: &[u32], n: u32, p: u32, by_square: bool, least: u64) -> u64
     requires { ⌜ (n < length (now table)) × (p < length (now table)) ⌝ }
     ensures { λ r. ⌜ r ≡ least-one «by_square» (now (table .entry)) least n p ⌝ }
 {
     let place = division::either(by_square, p, n);
+    let due = division::either(by_square, n, p);
     let i = place as usize;
-    if table[i] == division::either(by_square, n, p) {
+    if table[i] == due {
         return least;
     }
-    division::either(place < least, place, least)
+    let wrong = place as u64 * 4294967296 + due as u64;
+    if wrong < least {
+        return wrong;
+    }
+    least
 }
 
 // The squares of a straight block, which follow in its run.
-fn check_run(table: &[u32], k: Placed, area: Area, at: u32, by_square: bool, so_far: u32) -> u32
+fn check_run(table: &[u32], k: Placed, area: Area, at: u32, by_square: bool, so_far: u64) -> u64
     requires { ⌜ Fills (area .w) (area .h) (now table) (block k) at × (choice (k .a) (k .b) ≡ StraightRun) ⌝ }
     ensures { λ r. ⌜ r ≡ checked «by_square» (area .w) (now (table .entry)) (block k) at «so_far» ⌝ }
 {
@@ -237,7 +242,7 @@ fn check_run(table: &[u32], k: Placed, area: Area, at: u32, by_square: bool, so_
 }
 
 // The four squares of a 2 by 2 block, at once.
-fn check_quad(table: &[u32], k: Placed, area: Area, at: u32, by_square: bool, so_far: u32) -> u32
+fn check_quad(table: &[u32], k: Placed, area: Area, at: u32, by_square: bool, so_far: u64) -> u64
     requires { ⌜ Fills (area .w) (area .h) (now table) (block k) at × (k .a ≡ 2) × (k .b ≡ 2) ⌝ }
     ensures { λ r. ⌜ r ≡ checked «by_square» (area .w) (now (table .entry)) (block k) at «so_far» ⌝ }
 {
@@ -249,7 +254,7 @@ fn check_quad(table: &[u32], k: Placed, area: Area, at: u32, by_square: bool, so
 }
 
 // A block by its case. It and the two cuts call each other; the block's area falls.
-fn check_block(table: &[u32], k: Placed, area: Area, at: u32, by_square: bool, so_far: u32) -> u32
+fn check_block(table: &[u32], k: Placed, area: Area, at: u32, by_square: bool, so_far: u64) -> u64
     requires { ⌜ Fills (area .w) (area .h) (now table) (block k) at ⌝ }
     ensures { λ r. ⌜ r ≡ checked «by_square» (area .w) (now (table .entry)) (block k) at «so_far» ⌝ }
 {
@@ -278,8 +283,8 @@ fn check_long_cut(
     area: Area,
     at: u32,
     by_square: bool,
-    so_far: u32,
-) -> u32
+    so_far: u64,
+) -> u64
     requires { ⌜ Fills (area .w) (area .h) (now table) (block k) at × (choice (k .a) (k .b) ≡ LongCut) ⌝ }
     ensures { λ r. ⌜ r ≡ checked «by_square» (area .w) (now (table .entry)) (block k) at «so_far» ⌝ }
 {
@@ -303,7 +308,7 @@ fn check_long_cut(
 }
 
 // The three parts of a U cut.
-fn check_u_cut(table: &[u32], k: Placed, area: Area, at: u32, by_square: bool, so_far: u32) -> u32
+fn check_u_cut(table: &[u32], k: Placed, area: Area, at: u32, by_square: bool, so_far: u64) -> u64
     requires { ⌜ Fills (area .w) (area .h) (now table) (block k) at × (choice (k .a) (k .b) ≡ UCut) ⌝ }
     ensures { λ r. ⌜ r ≡ checked «by_square» (area .w) (now (table .entry)) (block k) at «so_far» ⌝ }
 {

@@ -1,0 +1,125 @@
+-- The least wrong place of a walk over a whole area is the first wrong place of the table: every place is looked at, and what is due there is what
+-- the table of that kind holds.
+use mathlib.Core.Bool.{Bool, true, false, cond}
+use mathlib.Core.List.{List, [], _∷_, map}
+use mathlib.Core.Path.{_≡_, refl, sym, ap, ap₂, subst, subst⁻¹, _∙_}
+use Prim.Native.Nat.{ℕ, zero, suc, _+_, _*_, _/_, _%_, _≤_, _<_}
+use native.Mathlib.Nat.{add-zero, zero-add, suc-add, add-suc, le-of-suc-le-suc}
+use native.Mathlib.Omega.{arith}
+use borrow.Author.Tests.{eq-eqb, ne-eqb, eqb-true, eqb-false}
+use lib.Dec.{eqb}
+use lib.ListN.{length, getD, length-map}
+use Rattle.division.specs.Division.{whole, curve}
+use Rattle.division.proofs.Once.{length-curve}
+use Rattle.division.proofs.Blocks.{whole-inside}
+use Rattle.tables.specs.Tables.{judged, due-by}
+use Rattle.tables.specs.Walk.{place, wrong-at, checked}
+use Rattle.tables.proofs.Entries.{either-below}
+use Rattle.tables.proofs.Checks.{over-most, over-below, over-some}
+use Rattle.tables.proofs.Listed.{values-below, due-there, looked-for, looked-below, looked-at, due-length}
+
+abbrev Same : (ds vs : List ℕ) → ℕ → Type 0
+Same ds vs i = getD vs i 0 ≡ getD ds i 0
+
+judged-right : (p : ℕ) (ds vs : List ℕ) → length vs ≡ length ds → ((i : ℕ) → i < length ds → Same ds vs i) → judged p ds vs ≡ 0 ∷ 0 ∷ 0 ∷ []
+unfolding judged
+judged-right p [] vs e same = refl
+judged-right p (d ∷ ds) [] e same = refl
+judged-right p (d ∷ ds) (v ∷ vs) e same =
+    rw (eq-eqb v d (same 0 (omega arith))) (judged-right (suc p) ds vs (omega arith) (λ i l. same (suc i) (omega arith)))
+
+judged-wrong : (p : ℕ) (ds vs : List ℕ) → length vs ≡ length ds → (l : ℕ) → l < length ds → (Same ds vs l → ⊥) → ((i : ℕ) → i < l → Same ds vs i)
+    → judged p ds vs ≡ 1 ∷ (p + l) ∷ getD ds l 0 ∷ []
+unfolding judged
+judged-wrong p [] vs e l b other same = absurd (omega arith)
+judged-wrong p (d ∷ ds) [] e l b other same = absurd (omega arith)
+judged-wrong p (d ∷ ds) (v ∷ vs) e zero b other same = rw (ne-eqb v d other) (ap (λ n. 1 ∷ n ∷ d ∷ []) (sym (add-zero p)))
+judged-wrong p (d ∷ ds) (v ∷ vs) e (suc l) b other same =
+    rw (eq-eqb v d (same 0 (omega arith)))
+    (judged-wrong (suc p) ds vs (omega arith) l (le-of-suc-le-suc b) other (λ i m. same (suc i) (omega arith))
+    ∙ ap (λ n. 1 ∷ n ∷ getD ds l 0 ∷ []) (suc-add p l ∙ sym (add-suc p l)))
+
+place-is : (i v : ℕ) → v < 4294967296 → wrong-at i v / 4294967296 ≡ 0 + i
+place-is i v l = omega arith
+
+value-is : (i v : ℕ) → v < 4294967296 → wrong-at i v % 4294967296 ≡ v
+value-is i v l = omega arith
+
+-- What the least wrong place of n says, where n itself as a place means none.
+abbrev pub verdict : (n least : ℕ) → List ℕ
+verdict n least = cond (eqb least (wrong-at n 0)) (0 ∷ 0 ∷ 0 ∷ []) (1 ∷ (least / 4294967296) ∷ (least % 4294967296) ∷ [])
+
+-- Of a table vs that should hold ds, both of n places: m is n as a place, or a wrong place, and no wrong place is less.
+module _ (ds vs : List ℕ) (n : ℕ) (long : length ds ≡ n) (size : length vs ≡ n) (small : (i : ℕ) → i < n → getD ds i 0 < 4294967296) (m : ℕ)
+    (below : (i : ℕ) → i < n → (Same ds vs i → ⊥) → m ≤ wrong-at i (getD ds i 0))
+    (some : (P : ℕ → Type 0) → P (wrong-at n 0) → ((i : ℕ) → i < n → (Same ds vs i → ⊥) → P (wrong-at i (getD ds i 0))) → P m) where
+  same-by : (i : ℕ) → i < n → (right : Bool) → eqb (getD vs i 0) (getD ds i 0) ≡ right → (l : ℕ) → i < l → wrong-at l 0 ≤ m → Same ds vs i
+  same-by i b true e l less least = eqb-true _ _ e
+  same-by i b false e l less least = let no-less = below i b (eqb-false _ _ e) in let value = small i b in absurd (omega arith)
+
+  first-wrong : judged 0 ds vs ≡ verdict n m
+  first-wrong =
+      some (λ x. x ≡ m → judged 0 ds vs ≡ verdict n x)
+      (λ e. judged-right 0 ds vs (size ∙ sym long) (λ i l. let b : i < n = omega arith in same-by i b (eqb (getD vs i 0) (getD ds i 0)) refl n b (omega arith))
+      ∙ sym (rw (eq-eqb (wrong-at n 0) (wrong-at n 0) refl)))
+      (λ i b other e. let value = small i b in
+      judged-wrong 0 ds vs (size ∙ sym long) i (omega arith) other
+      (λ j l. same-by j (omega arith) (eqb (getD vs j 0) (getD ds j 0)) refl i l (omega arith))
+      ∙ sym
+      (rw (ne-eqb (wrong-at i (getD ds i 0)) (wrong-at n 0) (λ z. omega arith))
+      (λ k. 1 ∷ place-is i (getD ds i 0) value k ∷ value-is i (getD ds i 0) value k ∷ [])))
+      refl
+
+module _ (w h : ℕ) (a : 1 ≤ w) (b : 1 ≤ h) (limit : w * h < 4294967296) (kind : Bool) (t : List ℕ) (size : length t ≡ w * h) where
+  abbrev ps : List ℕ
+  ps = map (place w) (curve (whole w h))
+
+  abbrev due : List ℕ
+  due = due-by kind w h
+
+  abbrev least : ℕ
+  least = checked kind w t (whole w h) 0 (wrong-at (w * h) 0)
+
+  ps-long : length ps ≡ w * h
+  unfolding whole
+  ps-long = length-map (curve (whole w h)) (place w) ∙ length-curve (whole w h) (whole-inside w h a b .sized)
+
+  -- the place of each look, and each place's look
+  value : (j : ℕ) → j < w * h → getD due (cond kind (getD ps j 0) (0 + j)) 0 ≡ cond kind (0 + j) (getD ps j 0)
+  value j l = due-there w h a b j l (0 + j) (zero-add j) kind
+
+  at : (i : ℕ) → i < w * h → cond kind (getD ps (looked-for w h a b kind i) 0) (0 + looked-for w h a b kind i) ≡ i
+  at i l = looked-at w h a b kind i l (0 + looked-for w h a b kind i) (zero-add (looked-for w h a b kind i))
+
+  value-at : (i : ℕ) → i < w * h → cond kind (0 + looked-for w h a b kind i) (getD ps (looked-for w h a b kind i) 0) ≡ getD due i 0
+  value-at i l = sym (value (looked-for w h a b kind i) (looked-below w h a b kind i l)) ∙ ap (λ k. getD due k 0) (at i l)
+
+  small : (i : ℕ) → i < w * h → getD due i 0 < 4294967296
+  small i l =
+      let j = looked-for w h a b kind i in
+      let both = values-below w h a b j (looked-below w h a b kind i l) (0 + j) (zero-add j) in
+      let under = either-below (getD ps j 0) (0 + j) (w * h) kind (both .1) (both .0) in
+      let is = value-at i l in
+      omega arith
+
+  below : (i : ℕ) → i < w * h → (Same due t i → ⊥) → least ≤ wrong-at i (getD due i 0)
+  below i l other =
+      let j = looked-for w h a b kind i in
+      subst (λ (n : ℕ). least ≤ n) (ap₂ wrong-at (at i l) (value-at i l))
+      (over-below kind t (wrong-at (w * h) 0) 0 ps j (subst⁻¹ (λ (n : ℕ). j < n) ps-long (looked-below w h a b kind i l))
+      (λ r. other (ap (λ k. getD t k 0) (sym (at i l)) ∙ r ∙ value-at i l)))
+
+  some : (P : ℕ → Type 0) → P (wrong-at (w * h) 0) → ((i : ℕ) → i < w * h → (Same due t i → ⊥) → P (wrong-at i (getD due i 0))) → P least
+  some P none wrong =
+      over-some kind t P (wrong-at (w * h) 0) 0 ps none
+      (λ j l other. let b′ : j < w * h = subst (λ (n : ℕ). j < n) ps-long l in
+      let i = cond kind (getD ps j 0) (0 + j) in
+      let both = values-below w h a b j b′ (0 + j) (zero-add j) in
+      subst (λ (v : ℕ). P (wrong-at i v)) (value j b′)
+      (wrong i (either-below (0 + j) (getD ps j 0) (w * h) kind (both .0) (both .1)) (λ s. other (s ∙ value j b′))))
+
+  pub whole-checked : judged 0 due t ≡ verdict (w * h) least
+  whole-checked = first-wrong due t (w * h) (due-length w h a b kind) size small least below some
+
+  pub least-fits : least / 4294967296 < 4294967296
+  least-fits = let most = over-most kind t (wrong-at (w * h) 0) 0 ps in omega arith
