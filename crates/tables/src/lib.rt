@@ -11,7 +11,7 @@ ghost use Rattle.division.specs.declared.Choice.the-variants.{StraightRun, Stra
 ghost use Rattle.division.specs.Division.{square, choice, blocks, whole};
 ghost use Rattle.division.specs.Division.Inside.{Inside};
 ghost use Rattle.division.specs.Forms.{block};
-ghost use Rattle.tables.specs.Tables.{by-number, by-square, unless-refused, fill, fill-figures};
+ghost use Rattle.tables.specs.Tables.{by-number, by-square, unless-refused, due-by, fill, fill-figures, check, check-figures};
 ghost use Rattle.tables.specs.Walk.{place, entered, walked, exchanged, Cornered, Fills, least-one, checked};
 
 // What a fill answers.
@@ -168,6 +168,20 @@ fn fill_u_cut(table: &mut [u32], k: Placed, area: Area, at: u32, by_square: bool
     a + b + c + 1
 }
 
+// The whole area as a block.
+fn whole_block(area: Area) -> Placed
+    ensures { λ r. ⌜ block r ≡ whole (area .w) (area .h) ⌝ }
+{
+    Placed {
+        along: 0,
+        across: 0,
+        turned: false,
+        back: false,
+        a: area.w,
+        b: area.h,
+    }
+}
+
 // Fills a table of either kind for a whole area.
 fn fill_whole(area: Area, table: &mut [u32], by_square: bool) -> FillAnswer
     ensures { λ r. ⌜ (fill-figures r ≡ fill (area .w) (area .h) (now (table .entry)))
@@ -181,15 +195,7 @@ fn fill_whole(area: Area, table: &mut [u32], by_square: bool) -> FillAnswer
     if table.len() != w as usize * h as usize {
         return FillAnswer::Refused(Refusal::TableLength);
     }
-    let k = Placed {
-        along: 0,
-        across: 0,
-        turned: false,
-        back: false,
-        a: w,
-        b: h,
-    };
-    let blocks = fill_block(table, k, area, 0, by_square);
+    let blocks = fill_block(table, whole_block(area), area, 0, by_square);
     FillAnswer::Filled { blocks: blocks }
 }
 
@@ -318,4 +324,41 @@ fn check_u_cut(table: &[u32], k: Placed, area: Area, at: u32, by_square: bool, s
     let a = check_block(table, division::part_a(k), area, at, by_square, so_far);
     let b = check_block(table, division::part_b(k), area, to_b, by_square, a);
     check_block(table, division::part_c(k), area, to_c, by_square, b)
+}
+
+// Checks a table of either kind for a whole area. A wrong place w·h, which there is not, means none.
+fn check_whole(area: Area, table: &[u32], by_square: bool) -> CheckAnswer
+    ensures { λ r. ⌜ check-figures r ≡ check (area .w) (area .h) (due-by «by_square» (area .w) (area .h)) (now (table .entry)) ⌝ }
+{
+    let w = area.w;
+    let h = area.h;
+    if !terms::accepts(area) {
+        return CheckAnswer::Refused(Refusal::AreaLimit);
+    }
+    if table.len() != w as usize * h as usize {
+        return CheckAnswer::Refused(Refusal::TableLength);
+    }
+    let none = w as u64 * h as u64 * 4294967296;
+    let least = check_block(table, whole_block(area), area, 0, by_square, none);
+    if least == none {
+        return CheckAnswer::Right;
+    }
+    CheckAnswer::Wrong {
+        place: (least / 4294967296) as u32,
+        due: (least % 4294967296) as u32,
+    }
+}
+
+// Whether place i holds y·w + x of square number i, for every i; else the first place that does not.
+pub fn check_by_number(area: Area, table: &[u32]) -> CheckAnswer
+    ensures { λ r. ⌜ check-figures r ≡ check (area .w) (area .h) (by-number (area .w) (area .h)) (now (table .entry)) ⌝ }
+{
+    check_whole(area, table, false)
+}
+
+// Whether place y·w + x holds the square's number, for every square; else the first place that does not.
+pub fn check_by_square(area: Area, table: &[u32]) -> CheckAnswer
+    ensures { λ r. ⌜ check-figures r ≡ check (area .w) (area .h) (by-square (area .w) (area .h)) (now (table .entry)) ⌝ }
+{
+    check_whole(area, table, true)
 }

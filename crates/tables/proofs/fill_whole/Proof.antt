@@ -2,14 +2,14 @@
 use borrow.Author.Needs.{needs}
 use borrow.Author.Tests.{not-true, not-false}
 use mathlib.Core.List.{[], _∷_}
-use mathlib.Core.Path.{sym, ap, _∙_}
+use mathlib.Core.Path.{sym, ap, subst⁻¹, _∙_}
 use native.Mathlib.Omega.{arith}
 use lib.ListN.{length}
 use Rattle.terms.specs.declared.Refusal.the-variants.{AreaLimit, TableLength}
 use Rattle.terms.specs.Terms.{answered}
-use Rattle.division.specs.Division.{whole, blocks}
+use Rattle.division.specs.Division.{Block, whole, blocks}
 use Rattle.tables.specs.Tables.{fill}
-use Rattle.tables.specs.Walk.{walked}
+use Rattle.tables.specs.Walk.{walked, Fills}
 use Rattle.tables.proofs.Whole.{squares-limit, area-refused, length-refused, taken, kept, given, whole-fills}
 use Rattle.tables.proofs.fill_whole.Statement.{statement}
 use Rattle.tables.proofs.fill_whole.Tie as tie
@@ -38,19 +38,27 @@ returns-2 c =
     let is = length-refused (c .before .before .before .before .args .area .w) (c .before .before .before .before .args .area .h) (c .before .before .before .before .args .table .now) 1 (answered (length (blocks (whole (c .before .before .before .before .args .area .w) (c .before .before .before .before .args .area .h))) ∷ [])) (sym (c .before .before .accepts .ensures) ∙ not-false _ (c .before .if1 .left)) (c .if2 .taken) in
     (is, kept TableLength 1 (walked (c .before .before .before .before .args .by-square) (c .before .before .before .before .args .area .w) (c .before .before .before .before .args .table .now) (whole (c .before .before .before .before .args .area .w) (c .before .before .before .before .args .area .h)) 0) (c .before .before .before .before .args .table .now) is)
 
+whole-block-requires : tie.Need-whole-block-requires
+whole-block-requires c κs = search needs
+
 fill-block-requires : tie.Need-fill-block-requires
-unfolding fill whole
-fill-block-requires c κs = whole-fills (c .before .before .before .before .before .args .area .w) (c .before .before .before .before .before .args .area .h) (c .before .before .before .before .before .args .table .now) (sym (c .before .before .before .accepts .ensures) ∙ not-false _ (c .before .before .if1 .left)) (c .before .if2 .left)
+fill-block-requires c κs = subst⁻¹ (λ (k : Block). Fills (c .before .before .before .before .before .before .args .area .w) (c .before .before .before .before .before .before .args .area .h) (c .before .before .before .before .before .before .args .table .now) k 0) (c .whole-block .ensures) (whole-fills (c .before .before .before .before .before .before .args .area .w) (c .before .before .before .before .before .before .args .area .h) (c .before .before .before .before .before .before .args .table .now) (sym (c .before .before .before .before .accepts .ensures) ∙ not-false _ (c .before .before .before .if1 .left)) (c .before .before .if2 .left))
 
 same-length : tie.Need-same-length
 same-length c = search needs
 
 returns-3 : tie.Need-returns-3
-unfolding fill whole
+unfolding fill
 returns-3 c =
-    let is = taken (c .before .before .before .before .before .before .before .before .args .area .w) (c .before .before .before .before .before .before .before .before .args .area .h) (c .before .before .before .before .before .before .before .before .args .table .now) 1 (answered (length (blocks (whole (c .before .before .before .before .before .before .before .before .args .area .w) (c .before .before .before .before .before .before .before .before .args .area .h))) ∷ [])) (sym (c .before .before .before .before .before .before .accepts .ensures) ∙ not-false _ (c .before .before .before .before .before .if1 .left)) (c .before .before .before .before .if2 .left) in (
-      ap (λ n. answered (n ∷ [])) (c .before .before .fill-block .ensures .1) ∙ sym is,
-      c .before .before .fill-block .ensures .0 ∙ given (length (blocks (whole (c .before .before .before .before .before .before .before .before .args .area .w) (c .before .before .before .before .before .before .before .before .args .area .h))) ∷ []) (walked (c .before .before .before .before .before .before .before .before .args .by-square) (c .before .before .before .before .before .before .before .before .args .area .w) (c .before .before .before .before .before .before .before .before .args .table .now) (whole (c .before .before .before .before .before .before .before .before .args .area .w) (c .before .before .before .before .before .before .before .before .args .area .h)) 0) (c .before .before .before .before .before .before .before .before .args .table .now) is,
+    let w = c .before .before .before .before .before .before .before .before .before .args .area .w in
+    let h = c .before .before .before .before .before .before .before .before .before .args .area .h in
+    let t = c .before .before .before .before .before .before .before .before .before .args .table .now in
+    let by-square = c .before .before .before .before .before .before .before .before .before .args .by-square in
+    let is = taken w h t 1 (answered (length (blocks (whole w h)) ∷ [])) (sym (c .before .before .before .before .before .before .before .accepts .ensures) ∙ not-false _ (c .before .before .before .before .before .before .if1 .left)) (c .before .before .before .before .before .if2 .left) in (
+      ap (λ n. answered (n ∷ [])) (c .before .before .fill-block .ensures .1 ∙ ap (λ k. length (blocks k)) (c .before .before .before .whole-block .ensures)) ∙ sym is,
+      c .before .before .fill-block .ensures .0
+          ∙ ap (λ k. walked by-square w t k 0) (c .before .before .before .whole-block .ensures)
+          ∙ given (length (blocks (whole w h)) ∷ []) (walked by-square w t (whole w h) 0) t is,
     )
 
 pub fill-whole-spec : {M : Type 1} → statement M
@@ -63,6 +71,7 @@ fill-whole-spec =
     cast-if2-2
     mul-if2
     returns-2
+    whole-block-requires
     fill-block-requires
     same-length
     returns-3)
