@@ -18,10 +18,10 @@ use Rattle.tables.proofs.Entries.{either-below}
 use Rattle.tables.proofs.Checks.{over-most, over-below, over-some}
 use Rattle.tables.proofs.Listed.{values-below, due-there, looked-for, looked-below, looked-at, due-length}
 
-abbrev Same : (ds vs : List ℕ) → ℕ → Type 0
+abbrev pub Same : (ds vs : List ℕ) → ℕ → Type 0
 Same ds vs i = getD vs i 0 ≡ getD ds i 0
 
-judged-right : (p : ℕ) (ds vs : List ℕ) → length vs ≡ length ds → ((i : ℕ) → i < length ds → Same ds vs i) → judged p ds vs ≡ 0 ∷ 0 ∷ 0 ∷ []
+pub judged-right : (p : ℕ) (ds vs : List ℕ) → length vs ≡ length ds → ((i : ℕ) → i < length ds → Same ds vs i) → judged p ds vs ≡ 0 ∷ 0 ∷ 0 ∷ []
 unfolding judged
 judged-right p [] vs e same = refl
 judged-right p (d ∷ ds) [] e same = refl

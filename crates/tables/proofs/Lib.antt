@@ -5,3 +5,4 @@ pub mod Parts
 pub mod Whole
 pub mod Listed
 pub mod Judged
+pub mod Promises
