@@ -179,6 +179,63 @@ fn digest(w: i64, h: i64) -> u64 {
     digest
 }
 
+// A filled table of either kind, and how many blocks the division has.
+fn filled(w: i64, h: i64, by_square: bool) -> (Vec<i64>, i64) {
+    let mut table = vec![0; (w * h) as usize];
+    for (number, s) in curve(whole(w, h)).into_iter().enumerate() {
+        let place = s.y * w + s.x;
+        if by_square { table[place as usize] = number as i64 } else { table[number] = place }
+    }
+    (table, blocks(whole(w, h)).len() as i64)
+}
+
+// The first wrong place and the value due there, or none.
+fn first_wrong(table: &[i64], due: &[i64]) -> Option<(i64, i64)> {
+    (0..due.len()).find(|&i| table[i] != due[i]).map(|i| (i as i64, due[i]))
+}
+
+// The digest of fills and checks with tables one place too short, one too long, and right.
+fn tables_digest(w: i64, h: i64) -> u64 {
+    let mut digest = 1;
+    for length in [w * h - 1, w * h + 1, w * h] {
+        for by_square in [false, true] {
+            if length != w * h {
+                digest = mixed(digest, 4);
+                digest = (0..length).fold(digest, |d, _| mixed(d, 7));
+                digest = mixed(mixed(digest, 4), 4);
+                continue;
+            }
+            let (table, count) = filled(w, h, by_square);
+            digest = mixed(mixed(digest, 0), count);
+            digest = table.iter().fold(digest, |d, v| mixed(d, *v));
+            for kind in [false, true] {
+                digest = match first_wrong(&table, &filled(w, h, kind).0) {
+                    None => mixed(digest, 0),
+                    Some((place, due)) => mixed(mixed(mixed(digest, 0), place), due),
+                };
+            }
+        }
+    }
+    digest
+}
+
+fn tables() {
+    for w in 1..=40 {
+        for h in 1..=40 {
+            println!("{w} {h} {}", tables_digest(w, h));
+        }
+    }
+    for place in 0..15 {
+        for by_square in [false, true] {
+            let (due, _) = filled(5, 3, by_square);
+            let mut table = due.clone();
+            table[place] = 99;
+            let (wrong, value) = first_wrong(&table, &due).expect("one value is changed");
+            println!("0 {wrong} {value}");
+        }
+    }
+}
+
 fn print(answer: Answer) {
     match answer {
         Ok(values) => println!("0 {}", values.iter().map(|v| v.to_string()).collect::<Vec<_>>().join(" ")),
@@ -208,6 +265,7 @@ fn traversals() {
     for (w, h) in [(1, 1), (3, 4), (65535, 65535), (65536, 1), (1, 65536), (0, 0)] {
         print(finish_square(w, h));
     }
+    tables();
 }
 
 fn main() {

@@ -1,12 +1,16 @@
-// A test: prints what the lookups answer, for the outside tests to compare with what an independent program says.
+// A test: prints what lookups, fills and checks answer, for the outside tests to compare with what an independent program says.
 //
 // First a line for each area up to 40 by 40: width, height, and a digest of every answer, in which any single difference shows. Then the answers to
-// the numbers and squares worked by hand and to the deepest squares: the refusal's number, 0 for none, and the values.
+// the numbers and squares worked by hand and to the deepest squares: the refusal's number, 0 for none, and the values. Then the same of tables: a line
+// for each area, with tables one place too short, one too long, and right; and the checks of a table with one value changed, at each place.
 use curve::FinishAnswer;
 use curve::NumberAnswer;
 use curve::SquareAnswer;
+use tables::CheckAnswer;
+use tables::FillAnswer;
 use terms::Area;
-ghost use Prim.Native.Nat.{_<_};
+ghost use Prim.Native.Nat.{_<_, _≤_};
+ghost use lib.ListN.{length};
 
 const OUT: i32 = 1;
 
@@ -72,6 +76,92 @@ fn squares_digest(start: u64, w: u32, h: u32) -> u64
     digest
 }
 
+fn mixed_fill(digest: u64, answer: FillAnswer) -> u64
+    requires { ⌜ digest < 4294967291 ⌝ }
+    ensures { λ r. ⌜ r < 4294967291 ⌝ }
+{
+    match answer {
+        FillAnswer::Filled { blocks } => mixed(mixed(digest, 0), (blocks % 4294967296) as u32),
+        FillAnswer::Refused(r) => mixed(digest, terms::refusal_number(r)),
+    }
+}
+
+fn mixed_check(digest: u64, answer: CheckAnswer) -> u64
+    requires { ⌜ digest < 4294967291 ⌝ }
+    ensures { λ r. ⌜ r < 4294967291 ⌝ }
+{
+    match answer {
+        CheckAnswer::Right => mixed(digest, 0),
+        CheckAnswer::Wrong { place, due } => mixed(mixed(mixed(digest, 0), place), due),
+        CheckAnswer::Refused(r) => mixed(digest, terms::refusal_number(r)),
+    }
+}
+
+fn mixed_table(start: u64, table: &[u32]) -> u64
+    requires { ⌜ start < 4294967291 ⌝ }
+    ensures { λ r. ⌜ r < 4294967291 ⌝ }
+{
+    let mut digest = start;
+    for i in 0..table.len() {
+        digest = mixed(digest, table[i]);
+    }
+    digest
+}
+
+// The digest of a fill, of what it leaves, and of both checks of that.
+fn fill_digest(start: u64, area: Area, table: &mut [u32], by_square: bool) -> u64
+    requires { ⌜ start < 4294967291 ⌝ }
+    ensures { λ r. ⌜ r < 4294967291 ⌝ }
+{
+    let answer = filled(area, table, by_square);
+    let left = mixed_table(mixed_fill(start, answer), table);
+    mixed_check(
+        mixed_check(left, tables::check_by_number(area, table)),
+        tables::check_by_square(area, table),
+    )
+}
+
+fn filled(area: Area, table: &mut [u32], by_square: bool) -> FillAnswer {
+    if by_square {
+        return tables::fill_by_square(area, table);
+    }
+    tables::fill_by_number(area, table)
+}
+
+// The same with the first n places of a table.
+fn front_digest(start: u64, area: Area, table: &mut [u32], n: usize, by_square: bool) -> u64
+    requires { ⌜ (start < 4294967291) × (n ≤ length (now table)) ⌝ }
+    ensures { λ r. ⌜ r < 4294967291 ⌝ }
+{
+    fill_digest(start, area, &mut table[..n], by_square)
+}
+
+// Of both kinds of table, of a length.
+fn length_digest(start: u64, area: Area, n: usize) -> u64
+    requires { ⌜ (start < 4294967291) × (n ≤ 1601) ⌝ }
+    ensures { λ r. ⌜ r < 4294967291 ⌝ }
+{
+    let mut table = [7u32; 1601];
+    let by_number = front_digest(start, area, &mut table[..], n, false);
+    front_digest(by_number, area, &mut table[..], n, true)
+}
+
+fn tables_digest(w: u32, h: u32) -> u64
+    requires { ⌜ (w ≤ 40) × (h ≤ 40) ⌝ }
+    ensures { λ r. ⌜ r < 4294967291 ⌝ }
+{
+    let area = Area { w: w, h: h };
+    let n = (w * h) as usize;
+    if n == 0 {
+        return 0;
+    }
+    length_digest(
+        length_digest(length_digest(1, area, n - 1), area, n + 1),
+        area,
+        n,
+    )
+}
+
 // A number, and a number behind a space.
 fn print(n: u64) {
     io::print_decimal(OUT, n);
@@ -93,6 +183,44 @@ fn print_row(w: u32) {
         also(squares_digest(numbers_digest(w, h), w, h));
         end_line();
     }
+}
+
+fn print_tables(w: u32)
+    requires { ⌜ w ≤ 40 ⌝ }
+{
+    for h in 1..41u32 {
+        print(w as u64);
+        also(h as u64);
+        also(tables_digest(w, h));
+        end_line();
+    }
+}
+
+fn print_check(answer: CheckAnswer) {
+    match answer {
+        CheckAnswer::Right => print(0),
+        CheckAnswer::Wrong { place, due } => {
+            print(0);
+            also(place as u64);
+            also(due as u64);
+        }
+        CheckAnswer::Refused(r) => print(terms::refusal_number(r) as u64),
+    }
+    end_line();
+}
+
+// The checks of tables of 5 by 3 squares with one value changed.
+fn print_changed(place: usize)
+    requires { ⌜ place < 15 ⌝ }
+{
+    let area = Area { w: 5, h: 3 };
+    let mut table = [7u32; 15];
+    tables::fill_by_number(area, &mut table[..]);
+    table[place] = 99;
+    print_check(tables::check_by_number(area, &table[..]));
+    tables::fill_by_square(area, &mut table[..]);
+    table[place] = 99;
+    print_check(tables::check_by_square(area, &table[..]));
 }
 
 fn print_square(w: u32, h: u32, number: u32) {
@@ -177,6 +305,19 @@ fn print_finishes() {
     print_finish(0, 0);
 }
 
+fn print_all_tables() {
+    for w in 1..41u32 {
+        print_tables(w);
+    }
+    print_all_changed();
+}
+
+fn print_all_changed() {
+    for place in 0..15usize {
+        print_changed(place);
+    }
+}
+
 fn main() {
     for w in 1..41u32 {
         print_row(w);
@@ -184,4 +325,5 @@ fn main() {
     print_squares();
     print_numbers();
     print_finishes();
+    print_all_tables();
 }

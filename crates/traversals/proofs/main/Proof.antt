@@ -34,6 +34,9 @@ print-numbers-requires c κs = search needs
 print-finishes-requires : tie.Need-print-finishes-requires Inv-loop μ-loop
 print-finishes-requires c κs = search needs
 
+print-all-tables-requires : tie.Need-print-all-tables-requires Inv-loop μ-loop
+print-all-tables-requires c κs = search needs
+
 returns : tie.Need-returns Inv-loop μ-loop
 returns c = search needs
 
@@ -51,4 +54,5 @@ main-spec =
     print-squares-requires
     print-numbers-requires
     print-finishes-requires
+    print-all-tables-requires
     returns)
