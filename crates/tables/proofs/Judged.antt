@@ -15,7 +15,7 @@ use Rattle.division.proofs.Blocks.{whole-inside}
 use Rattle.tables.specs.Tables.{judged, due-by}
 use Rattle.tables.specs.Walk.{place, wrong-at, checked}
 use Rattle.tables.proofs.Entries.{either-below}
-use Rattle.tables.proofs.Checks.{over-most, over-below, over-some}
+use Rattle.tables.proofs.Checks.{over-below, over-some}
 use Rattle.tables.proofs.Listed.{values-below, due-there, looked-for, looked-below, looked-at, due-length}
 
 abbrev pub Same : (ds vs : List ℕ) → ℕ → Type 0
@@ -120,6 +120,3 @@ module _ (w h : ℕ) (a : 1 ≤ w) (b : 1 ≤ h) (limit : w * h < 4294967296) (k
 
   pub whole-checked : judged 0 due t ≡ verdict (w * h) least
   whole-checked = first-wrong due t (w * h) (due-length w h a b kind) size small least below some
-
-  pub least-fits : least / 4294967296 < 4294967296
-  least-fits = let most = over-most kind t (wrong-at (w * h) 0) 0 ps in omega arith

@@ -115,13 +115,13 @@ not-seven true e =
     let held = ap (λ zs. getD zs 0 0) e ∙ ap (λ p. getD (by-square 1 1) p 0) (sym there) ∙ due-there 1 1 (lit≤ tt) (lit≤ tt) j small j refl true in
     omega arith
 
--- one that fills nothing
-pub fills-nothing : ((w h : ℕ) (t : List ℕ) → t ≡ unless-refused (fill w h t) (by-number w h) t) → ⊥
+-- one that fills nothing, of either kind
+pub fills-nothing : (kind : Bool) → ((w h : ℕ) (t : List ℕ) → t ≡ unless-refused (fill w h t) (due-by kind w h) t) → ⊥
 unfolding fill
-fills-nothing promise =
-    not-seven false
+fills-nothing kind promise =
+    not-seven kind
     (promise 1 1 (7 ∷ [])
-    ∙ sym (given (length (blocks (whole 1 1)) ∷ []) (by-number 1 1) (7 ∷ []) (taken 1 1 (7 ∷ []) 1 (answered (length (blocks (whole 1 1)) ∷ [])) one-square refl)))
+    ∙ sym (given (length (blocks (whole 1 1)) ∷ []) (due-by kind 1 1) (7 ∷ []) (taken 1 1 (7 ∷ []) 1 (answered (length (blocks (whole 1 1)) ∷ [])) one-square refl)))
 
 -- one that finds every table right
 pub finds-all-right : (kind : Bool) → ((w h : ℕ) (t : List ℕ) → accepted w h ≡ true → length t ≡ w * h → check w h (due-by kind w h) t ≡ answered (0 ∷ 0 ∷ 0 ∷ [])) → ⊥

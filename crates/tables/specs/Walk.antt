@@ -1,4 +1,4 @@
--- What the walk that fills a table asks and leaves: an entry stored for each square of a block, in the curve's order.
+-- What the walks that fill and check a table ask and leave: for each square of a block, in the curve's order, an entry stored or a place looked at.
 use mathlib.Core.Bool.{Bool, cond}
 use mathlib.Core.List.{List, [], _∷_, map}
 use mathlib.Core.Path.{_≡_}
