@@ -1,11 +1,9 @@
 -- What the two descents below the lookups ask and return. Each returns a word: a square or a number, and a count of blocks below 256.
-use mathlib.Core.Bool.{Bool}
 use mathlib.Core.Path.{_≡_}
 use Prim.Native.Nat.{ℕ, suc, _+_, _*_, _≤_, _<_}
 use Rattle.division.specs.declared.Spot.{Spot}
 use Rattle.division.specs.Division.{Square, square, Block, whole, square-of, number-of, blocks-holding}
 use Rattle.division.specs.Division.Inside.{Inside}
-use Rattle.division.specs.Forms.{block}
 
 abbrev pub square-word : Square → ℕ → ℕ
 square-word s blocks = (s .x * 65536 + s .y) * 256 + blocks
@@ -13,10 +11,7 @@ square-word s blocks = (s .x * 65536 + s .y) * 256 + blocks
 abbrev pub number-word : ℕ → ℕ → ℕ
 number-word number blocks = number * 256 + blocks
 
--- The block and the spot of a descent's parameters.
-abbrev pub block-at : (along across : ℕ) (turned back : Bool) (a b : ℕ) → Block
-block-at along across turned back a b = block (record { along = along; across = across; turned = turned; back = back; a = a; b = b })
-
+-- The spot of a descent's parameters.
 abbrev pub spot-at : (a b u v : ℕ) → Spot
 spot-at a b u v = record { a = a; b = b; u = u; v = v }
 

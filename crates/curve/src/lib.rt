@@ -10,8 +10,8 @@ ghost use Prim.Native.Nat.{_*_, _≤_, _<_};
 ghost use Rattle.division.specs.declared.Choice.the-variants.{LongCut, UCut};
 ghost use Rattle.division.specs.Division.{square, moved, choice};
 ghost use Rattle.division.specs.Division.Inside.{Inside};
-ghost use Rattle.division.specs.Forms.{block, Steps};
-ghost use Rattle.curve.specs.Descents.{square-word, number-word, block-at, spot-at, Enters, Descends, descent-word, Lying, Leads, Searches, search-word};
+ghost use Rattle.division.specs.Forms.{block, block-at, Steps};
+ghost use Rattle.curve.specs.Descents.{square-word, number-word, spot-at, Enters, Descends, descent-word, Lying, Leads, Searches, search-word};
 ghost use Rattle.curve.specs.Lookups.{square-figures, number-figures, finish-figures, number-to-square, square-to-number, finish-square};
 
 // What a lookup of a number answers.

@@ -10,6 +10,7 @@ use Rattle.division.specs.declared.Choice.the-variants.{StraightRun, Str
 pub mod Worked
 pub mod Inside
 pub mod Rules
+pub mod Small
 
 -- "Squares are (x, y)."
 pub record Square : Type 0 where

@@ -23,6 +23,10 @@ block k =
       b = k .b;
     }
 
+-- The block of a placed one's fields: a walk that calls itself passes them one by one.
+abbrev pub block-at : (along across : ℕ) (turned back : Bool) (a b : ℕ) → Block
+block-at along across turned back a b = block (record { along = along; across = across; turned = turned; back = back; a = a; b = b })
+
 -- A coordinate n squares on, or back, and what has to hold for that to be one.
 abbrev pub stepped-to : ℕ → ℕ → Bool → ℕ
 stepped-to at n back = cond back (at - n) (at + n)

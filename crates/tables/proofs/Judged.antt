@@ -9,13 +9,16 @@ use native.Mathlib.Omega.{arith}
 use borrow.Author.Tests.{eq-eqb, ne-eqb, eqb-true, eqb-false}
 use lib.Dec.{eqb}
 use lib.ListN.{length, getD, length-map}
-use Rattle.division.specs.Division.{whole, curve}
+use Rattle.terms.specs.Terms.{accepted, answered}
+use Rattle.terms.proofs.Laws.{limits}
+use Rattle.division.specs.Division.{Block, whole, curve}
 use Rattle.division.proofs.Once.{length-curve}
 use Rattle.division.proofs.Blocks.{whole-inside}
-use Rattle.tables.specs.Tables.{judged, due-by}
-use Rattle.tables.specs.Walk.{place, wrong-at, checked}
-use Rattle.tables.proofs.Entries.{either-below}
-use Rattle.tables.proofs.Checks.{over-below, over-some}
+use Rattle.tables.specs.Tables.{judged, due-by, check}
+use Rattle.leaves.specs.Walk.{place, wrong-at, checked}
+use Rattle.leaves.proofs.Entries.{either-below}
+use Rattle.leaves.proofs.Checks.{over-below, over-some}
+use Rattle.tables.proofs.Whole.{taken, squares-limit}
 use Rattle.tables.proofs.Listed.{values-below, due-there, looked-for, looked-below, looked-at, due-length}
 
 abbrev pub Same : (ds vs : List ℕ) → ℕ → Type 0
@@ -118,5 +121,23 @@ module _ (w h : ℕ) (a : 1 ≤ w) (b : 1 ≤ h) (limit : w * h < 4294967296) (k
       subst (λ (v : ℕ). P (wrong-at i v)) (value j b′)
       (wrong i (either-below (0 + j) (getD ps j 0) (w * h) kind (both .0) (both .1)) (λ s. other (s ∙ value j b′))))
 
-  pub whole-checked : judged 0 due t ≡ verdict (w * h) least
+  whole-checked : judged 0 due t ≡ verdict (w * h) least
   whole-checked = first-wrong due t (w * h) (due-length w h a b kind) size small least below some
+
+-- a check's answer, from the least wrong place of a walk over the whole area
+module _ (w h : ℕ) (ok : accepted w h ≡ true) (kind : Bool) (t : List ℕ) (size : length t ≡ w * h) (k : Block) (is : k ≡ whole w h) (least : ℕ)
+    (least-is : least ≡ checked kind w t k 0 (w * h * 4294967296)) where
+  verdict-is : answered (verdict (w * h) least) ≡ check w h (due-by kind w h) t
+  unfolding check
+  verdict-is =
+      let all = limits w h ok in
+      sym
+      (taken w h t 3 (answered (judged 0 (due-by kind w h) t)) ok size
+      ∙ ap answered (whole-checked w h (all .w-least) (all .h-least) (squares-limit w h ok) kind t size
+      ∙ ap (verdict (w * h)) (sym (least-is ∙ ap₂ (λ j none. checked kind w t j 0 none) is (sym (add-zero (w * h * 4294967296)))))))
+
+  pub right-is : least ≡ w * h * 4294967296 → answered (0 ∷ 0 ∷ 0 ∷ []) ≡ check w h (due-by kind w h) t
+  right-is e = ap answered (sym (rw (eq-eqb least (wrong-at (w * h) 0) (omega arith)))) ∙ verdict-is
+
+  pub wrong-is : (least ≡ w * h * 4294967296 → ⊥) → answered (1 ∷ (least / 4294967296) ∷ (least % 4294967296) ∷ []) ≡ check w h (due-by kind w h) t
+  wrong-is e = ap answered (sym (rw (ne-eqb least (wrong-at (w * h) 0) (λ z. e (omega arith))))) ∙ verdict-is

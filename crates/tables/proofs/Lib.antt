@@ -1,6 +1,3 @@
-pub mod Entries
-pub mod Checks
-pub mod Quads
 pub mod Parts
 pub mod Whole
 pub mod Listed

@@ -14,8 +14,8 @@ use Rattle.division.proofs.Once.{length-curve, square-held, square-of-number, n
 use Rattle.division.proofs.Blocks.{whole-inside}
 use Rattle.division.proofs.Local.{Within, whole-holds, whole-within, getD-map-in}
 use Rattle.tables.specs.Tables.{places, by-number, by-square, due-by}
-use Rattle.tables.specs.Walk.{place, over, entered, walked}
-use Rattle.tables.proofs.Entries.{entered-length, place-below}
+use Rattle.leaves.specs.Walk.{place, over, entered, walked}
+use Rattle.leaves.proofs.Entries.{entered-length, place-below}
 
 pub places-length : (f : ℕ → ℕ) (n : ℕ) → length (places f n) ≡ n
 unfolding places
@@ -145,7 +145,7 @@ module _ (w h : ℕ) (a : 1 ≤ w) (b : 1 ≤ h) where
   due-length true = places-length (λ p. number-of (whole w h) (square (p % w) (p / w))) (w * h)
 
   module _ (t : List ℕ) (size : length t ≡ w * h) where
-    pub number-table : walked false w t (whole w h) 0 ≡ by-number w h
+    number-table : walked false w t (whole w h) 0 ≡ by-number w h
     unfolding ps by-number
     number-table =
         numbers-entered t 0 ps (zero-add (length ps) ∙ ps-length ∙ sym size)
@@ -153,7 +153,7 @@ module _ (w h : ℕ) (a : 1 ≤ w) (b : 1 ≤ h) where
         (λ i l. let below : i < w * h = subst (λ (n : ℕ). i < n) ps-length l in
         ps-at i below ∙ sym (place-holds (λ i. square-of (whole w h) i .y * w + square-of (whole w h) i .x) (w * h) i below))
 
-    pub square-table : walked true w t (whole w h) 0 ≡ by-square w h
+    square-table : walked true w t (whole w h) 0 ≡ by-square w h
     unfolding ps by-square whole
     square-table =
         let f : ℕ → ℕ = λ p. number-of (whole w h) (square (p % w) (p / w)) in
@@ -166,3 +166,7 @@ module _ (w h : ℕ) (a : 1 ≤ w) (b : 1 ≤ h) where
         (λ j k e. only-number p j (subst (λ (n : ℕ). j < n) ps-length k) e)
         ∙ zero-add i
         ∙ sym (place-holds f (w * h) p below))
+
+    pub due-table : (kind : Bool) → walked kind w t (whole w h) 0 ≡ due-by kind w h
+    due-table false = number-table
+    due-table true = square-table

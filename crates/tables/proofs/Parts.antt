@@ -18,13 +18,13 @@ use Rattle.division.proofs.Once.{length-curve}
 use Rattle.division.proofs.Blocks.{few-blocks}
 use Rattle.division.proofs.Descent.{part-inside, skip-fits}
 use Rattle.division.proofs.Walks.{Sums, sums}
-use Rattle.tables.specs.Walk.{place, over, over-block, exchanged, Fills}
-use Rattle.tables.proofs.Entries.{over-append}
+use Rattle.leaves.specs.Walk.{place, over, over-block, exchanged, Fills}
+use Rattle.leaves.proofs.Entries.{over-append}
 
 -- one call on a part: its measure is less, and it has its room
 module _ {w h : ℕ} {t : List ℕ} {k : Block} {at : ℕ} (f : Fills w h t k at) (before : List Block) (q : Block) (after : List Block) (e : parts k ≡ before ++ (q ∷ after)) where
   call : (t′ : List ℕ) → length t′ ≡ length t → (on : ℕ) → on ≡ at + total area before → (r : Placed) → block r ≡ q
-      → (2 * (r .a * r .b) + 1 < 2 * (k .a * k .b)) × Fills w h t′ (block r) on
+      → (3 * (r .a * r .b) + 2 < 3 * (k .a * k .b)) × Fills w h t′ (block r) on
   call t′ same on is r there =
       let inside = part-inside w h k (f .inside) before q after e in
       let less : Smaller k q = all-right (Smaller k) before (q ∷ after) (subst (All (Smaller k)) e (smaller k (f .inside .sized))) .0 in
@@ -48,7 +48,7 @@ first-over step state w k q zs at s e =
     ∙ ap (λ n. over step (over-block step state w q at) (at + n) (map (place w) zs)) (length-map (curve q) (place w) ∙ length-curve q s)
 
 -- a count of blocks is a 64-bit number
-pub few : {w h : ℕ} {t : List ℕ} {k : Block} {at : ℕ} → Fills w h t k at → length (blocks k) < 8589934592
+few : {w h : ℕ} {t : List ℕ} {k : Block} {at : ℕ} → Fills w h t k at → length (blocks k) < 8589934592
 few {k = k} f =
     let most = few-blocks k (f .inside .sized) in
     let room = f .room in
@@ -56,25 +56,25 @@ few {k = k} f =
     omega arith
 
 -- the long cut
-module _ (k : Placed) {w h : ℕ} {t : List ℕ} {at : ℕ} (f : Fills w h t (block k) at) (c : choice (k .a) (k .b) ≡ LongCut) (e : ℕ) (half : e ≡ even-half (k .a)) where
-  sized-first : Sized (part First (block k))
+module _ {w h : ℕ} {t : List ℕ} {k : Block} {at : ℕ} (f : Fills w h t k at) (c : choice (k .a) (k .b) ≡ LongCut) {e : ℕ} (half : e ≡ even-half (k .a)) where
+  sized-first : Sized (part First k)
   unfolding parts-of
-  sized-first = part-inside w h (block k) (f .inside) [] (part First (block k)) (part Second (block k) ∷ []) (parts-are (block k) LongCut c) .sized
+  sized-first = part-inside w h k (f .inside) [] (part First k) (part Second k ∷ []) (parts-are k LongCut c) .sized
 
-  pub first-call : (r : Placed) → block r ≡ part First (block k) → (2 * (r .a * r .b) + 1 < 2 * (k .a * k .b)) × Fills w h t (block r) at
+  pub first-call : (r : Placed) → block r ≡ part First k → (3 * (r .a * r .b) + 2 < 3 * (k .a * k .b)) × Fills w h t (block r) at
   unfolding parts-of
-  first-call r there = call f [] (part First (block k)) (part Second (block k) ∷ []) (parts-are (block k) LongCut c) t refl at (omega arith) r there
+  first-call r there = call f [] (part First k) (part Second k ∷ []) (parts-are k LongCut c) t refl at (omega arith) r there
 
-  pub second-call : (t′ : List ℕ) → length t′ ≡ length t → (r : Placed) → block r ≡ part Second (block k)
-      → (2 * (r .a * r .b) + 1 < 2 * (k .a * k .b)) × Fills w h t′ (block r) (at + e * k .b)
+  pub second-call : (t′ : List ℕ) → length t′ ≡ length t → (r : Placed) → block r ≡ part Second k
+      → (3 * (r .a * r .b) + 2 < 3 * (k .a * k .b)) × Fills w h t′ (block r) (at + e * k .b)
   unfolding parts-of part
   second-call t′ same r there =
-      call f (part First (block k) ∷ []) (part Second (block k)) [] (parts-are (block k) LongCut c) t′ same (at + e * k .b)
+      call f (part First k ∷ []) (part Second k) [] (parts-are k LongCut c) t′ same (at + e * k .b)
       (rw half (omega arith)) r there
 
   pub second-number : (e * k .b < 4294967296) × (at + e * k .b < 4294967296)
   second-number =
-      let lengths = long-lengths (block k) (f .inside .sized) c in
+      let lengths = long-lengths k (f .inside .sized) c in
       let less = halves (k .a) (lengths .0) in
       let part : e * k .b ≤ k .a * k .b = mul-le-mul-right (k .b) (omega arith) in
       let room = f .room in
@@ -82,83 +82,92 @@ module _ (k : Placed) {w h : ℕ} {t : List ℕ} {at : ℕ} (f : Fills w h t (bl
       (omega arith, omega arith)
 
   pub long-over : {S : Type 0} (step : S → ℕ → ℕ → S) (state : S)
-      → over-block step (over-block step state w (part First (block k)) at) w (part Second (block k)) (at + e * k .b) ≡ over-block step state w (block k) at
+      → over-block step (over-block step state w (part First k) at) w (part Second k) (at + e * k .b) ≡ over-block step state w k at
   unfolding part
   long-over step state =
-      ap (λ a. over-block step (over-block step state w (part First (block k)) at) w (part Second (block k)) (at + a * k .b)) half
-      ∙ sym (first-over step state w (block k) (part First (block k)) (curve (part Second (block k))) at sized-first (rule (block k) LongCut (f .inside .sized) c .0))
+      ap (λ a. over-block step (over-block step state w (part First k) at) w (part Second k) (at + a * k .b)) half
+      ∙ sym (first-over step state w k (part First k) (curve (part Second k)) at sized-first (rule k LongCut (f .inside .sized) c .0))
 
-  pub long-count : (n m : ℕ) → n ≡ length (blocks (part First (block k))) → m ≡ length (blocks (part Second (block k))) → n + m + 1 ≡ length (blocks (block k))
-  long-count n m p q =
-      let sum = ap length (rule (block k) LongCut (f .inside .sized) c .1) ∙ ap suc (length-append (blocks (part First (block k))) (blocks (part Second (block k)))) in
+  pub long-count : {n m : ℕ} → n ≡ length (blocks (part First k)) → m ≡ length (blocks (part Second k)) → n + m + 1 ≡ length (blocks k)
+  long-count {n} {m} p q =
+      let sum = ap length (rule k LongCut (f .inside .sized) c .1) ∙ ap suc (length-append (blocks (part First k)) (blocks (part Second k))) in
       omega arith
 
+  pub long-fits : {n m : ℕ} → n ≡ length (blocks (part First k)) → m ≡ length (blocks (part Second k)) → n + m + 1 < 8589934592
+  long-fits {n} {m} p q = let all = long-count p q in let most = few f in omega arith
+
 -- the U cut
-module _ (k : Placed) {w h : ℕ} {t : List ℕ} {at : ℕ} (f : Fills w h t (block k) at) (c : choice (k .a) (k .b) ≡ UCut) (e : ℕ) (half : e ≡ even-half (k .b)) where
-  sized-a : Sized (part A (block k))
+pub u-deep : {w h : ℕ} {t : List ℕ} {k : Block} {at : ℕ} → Fills w h t k at → choice (k .a) (k .b) ≡ UCut → 2 ≤ k .b
+u-deep {k = k} f c = u-lengths k (f .inside .sized) c .1
+
+module _ {w h : ℕ} {t : List ℕ} {k : Block} {at : ℕ} (f : Fills w h t k at) (c : choice (k .a) (k .b) ≡ UCut) {e : ℕ} (half : e ≡ even-half (k .b)) where
+  sized-a : Sized (part A k)
   unfolding parts-of
   sized-a =
-      part-inside w h (block k) (f .inside) [] (part A (block k)) (part B (block k) ∷ part C (block k) ∷ []) (parts-are (block k) UCut c) .sized
+      part-inside w h k (f .inside) [] (part A k) (part B k ∷ part C k ∷ []) (parts-are k UCut c) .sized
 
-  sized-b : Sized (part B (block k))
+  sized-b : Sized (part B k)
   unfolding parts-of
   sized-b =
-      part-inside w h (block k) (f .inside) (part A (block k) ∷ []) (part B (block k)) (part C (block k) ∷ []) (parts-are (block k) UCut c) .sized
+      part-inside w h k (f .inside) (part A k ∷ []) (part B k) (part C k ∷ []) (parts-are k UCut c) .sized
 
-  pub a-call : (r : Placed) → block r ≡ part A (block k) → (2 * (r .a * r .b) + 1 < 2 * (k .a * k .b)) × Fills w h t (block r) at
+  pub a-call : (r : Placed) → block r ≡ part A k → (3 * (r .a * r .b) + 2 < 3 * (k .a * k .b)) × Fills w h t (block r) at
   unfolding parts-of
   a-call r there =
-      call f [] (part A (block k)) (part B (block k) ∷ part C (block k) ∷ []) (parts-are (block k) UCut c) t refl at (omega arith) r there
+      call f [] (part A k) (part B k ∷ part C k ∷ []) (parts-are k UCut c) t refl at (omega arith) r there
 
-  pub b-call : (t′ : List ℕ) → length t′ ≡ length t → (r : Placed) → block r ≡ part B (block k)
-      → (2 * (r .a * r .b) + 1 < 2 * (k .a * k .b)) × Fills w h t′ (block r) (at + e * (k .a / 2))
+  pub b-call : (t′ : List ℕ) → length t′ ≡ length t → (r : Placed) → block r ≡ part B k
+      → (3 * (r .a * r .b) + 2 < 3 * (k .a * k .b)) × Fills w h t′ (block r) (at + e * (k .a / 2))
   unfolding parts-of part
   b-call t′ same r there =
-      call f (part A (block k) ∷ []) (part B (block k)) (part C (block k) ∷ []) (parts-are (block k) UCut c) t′ same (at + e * (k .a / 2))
+      call f (part A k ∷ []) (part B k) (part C k ∷ []) (parts-are k UCut c) t′ same (at + e * (k .a / 2))
       (rw half (omega arith)) r there
 
-  pub c-call : (t′ : List ℕ) → length t′ ≡ length t → (r : Placed) → block r ≡ part C (block k)
-      → (2 * (r .a * r .b) + 1 < 2 * (k .a * k .b)) × Fills w h t′ (block r) (at + e * (k .a / 2) + k .a * (k .b - e))
+  pub c-call : (t′ : List ℕ) → length t′ ≡ length t → (r : Placed) → block r ≡ part C k
+      → (3 * (r .a * r .b) + 2 < 3 * (k .a * k .b)) × Fills w h t′ (block r) (at + e * (k .a / 2) + k .a * (k .b - e))
   unfolding parts-of part
   c-call t′ same r there =
-      call f (part A (block k) ∷ part B (block k) ∷ []) (part C (block k)) [] (parts-are (block k) UCut c) t′ same (at + e * (k .a / 2) + k .a * (k .b - e))
+      call f (part A k ∷ part B k ∷ []) (part C k) [] (parts-are k UCut c) t′ same (at + e * (k .a / 2) + k .a * (k .b - e))
       (rw half (omega arith)) r there
 
   pub u-numbers : Sums at (k .a) (k .b) e
   u-numbers =
       let room = f .room in
       let all = mul-le-mul (f .w-limit) (f .h-limit) in
-      sums at (k .a) (k .b) e (u-lengths (block k) (f .inside .sized) c .1) half (omega arith)
+      sums at (k .a) (k .b) e (u-deep f c) half (omega arith)
 
   pub u-over : {S : Type 0} (step : S → ℕ → ℕ → S) (state : S)
       → over-block step
-      (over-block step (over-block step state w (part A (block k)) at) w (part B (block k)) (at + e * (k .a / 2)))
-      w (part C (block k)) (at + e * (k .a / 2) + k .a * (k .b - e))
-      ≡ over-block step state w (block k) at
+      (over-block step (over-block step state w (part A k) at) w (part B k) (at + e * (k .a / 2)))
+      w (part C k) (at + e * (k .a / 2) + k .a * (k .b - e))
+      ≡ over-block step state w k at
   unfolding part
   u-over step state =
-      let first = over-block step state w (part A (block k)) at in
-      let rest = curve (part B (block k)) ++ curve (part C (block k)) in
-      ap (λ a. over-block step (over-block step first w (part B (block k)) (at + a * (k .a / 2))) w (part C (block k)) (at + a * (k .a / 2) + k .a * (k .b - a))) half
+      let first = over-block step state w (part A k) at in
+      let rest = curve (part B k) ++ curve (part C k) in
+      ap (λ a. over-block step (over-block step first w (part B k) (at + a * (k .a / 2))) w (part C k) (at + a * (k .a / 2) + k .a * (k .b - a))) half
       ∙ sym
-      (first-over step state w (block k) (part A (block k)) rest at sized-a (rule (block k) UCut (f .inside .sized) c .0)
-      ∙ ap (over step first (at + area (part A (block k)))) (map-append (place w) (curve (part B (block k))) (curve (part C (block k))))
-      ∙ over-append step first (at + area (part A (block k))) (map (place w) (curve (part B (block k)))) (map (place w) (curve (part C (block k))))
-      ∙ ap (λ x. over step (over-block step first w (part B (block k)) (at + area (part A (block k)))) (at + area (part A (block k)) + x) (map (place w) (curve (part C (block k)))))
-      (length-map (curve (part B (block k))) (place w) ∙ length-curve (part B (block k)) sized-b))
+      (first-over step state w k (part A k) rest at sized-a (rule k UCut (f .inside .sized) c .0)
+      ∙ ap (over step first (at + area (part A k))) (map-append (place w) (curve (part B k)) (curve (part C k)))
+      ∙ over-append step first (at + area (part A k)) (map (place w) (curve (part B k))) (map (place w) (curve (part C k)))
+      ∙ ap (λ x. over step (over-block step first w (part B k) (at + area (part A k))) (at + area (part A k) + x) (map (place w) (curve (part C k))))
+      (length-map (curve (part B k)) (place w) ∙ length-curve (part B k) sized-b))
 
-  pub u-count : (l m n : ℕ) → l ≡ length (blocks (part A (block k))) → m ≡ length (blocks (part B (block k))) → n ≡ length (blocks (part C (block k)))
-      → l + m + n + 1 ≡ length (blocks (block k))
-  u-count l m n p q r =
+  pub u-count : {l m n : ℕ} → l ≡ length (blocks (part A k)) → m ≡ length (blocks (part B k)) → n ≡ length (blocks (part C k))
+      → l + m + n + 1 ≡ length (blocks k)
+  u-count {l} {m} {n} p q r =
       let sum =
-      ap length (rule (block k) UCut (f .inside .sized) c .1)
-      ∙ ap suc (length-append (blocks (part A (block k))) (blocks (part B (block k)) ++ blocks (part C (block k)))
-      ∙ ap (λ x. length (blocks (part A (block k))) + x) (length-append (blocks (part B (block k))) (blocks (part C (block k))))) in
+      ap length (rule k UCut (f .inside .sized) c .1)
+      ∙ ap suc (length-append (blocks (part A k)) (blocks (part B k) ++ blocks (part C k))
+      ∙ ap (λ x. length (blocks (part A k)) + x) (length-append (blocks (part B k)) (blocks (part C k)))) in
       omega arith
 
+  pub u-fits : {l m n : ℕ} → l ≡ length (blocks (part A k)) → m ≡ length (blocks (part B k)) → n ≡ length (blocks (part C k)) → l + m + n + 1 < 8589934592
+  u-fits {l} {m} {n} p q r = let all = u-count p q r in let most = few f in omega arith
+
 -- a straight block with run and side exchanged: the same squares in the same order
-module _ (k : Placed) {w h : ℕ} {t : List ℕ} {at : ℕ} (f : Fills w h t (block k) at) (c : choice (k .a) (k .b) ≡ StraightSide) where
-  exchanged-fills : Fills w h t (exchanged (block k)) at
+module _ {w h : ℕ} {t : List ℕ} {k : Block} {at : ℕ} (f : Fills w h t k at) (c : choice (k .a) (k .b) ≡ StraightSide) where
+  exchanged-fills : Fills w h t (exchanged k) at
   unfolding exchanged
   exchanged-fills =
       let room = f .room in
@@ -175,25 +184,25 @@ module _ (k : Placed) {w h : ℕ} {t : List ℕ} {at : ℕ} (f : Fills w h t (bl
         room = omega (arith, mul-comm (k .a) (k .b));
       }
 
-  exchanged-case : choice (exchanged (block k) .a) (exchanged (block k) .b) ≡ StraightRun
+  exchanged-case : choice (exchanged k .a) (exchanged k .b) ≡ StraightRun
   unfolding exchanged choice
-  exchanged-case = rw (side-length (block k) (f .inside .sized) c)
+  exchanged-case = rw (side-length k (f .inside .sized) c)
 
-  pub side-call : (r : Placed) → block r ≡ exchanged (block k) → Fills w h t (block r) at × (choice (r .a) (r .b) ≡ StraightRun)
+  pub side-call : (r : Placed) → block r ≡ exchanged k → Fills w h t (block r) at × (choice (r .a) (r .b) ≡ StraightRun)
   side-call r there =
       subst⁻¹ (λ (j : Block). Fills w h t j at × (choice (j .a) (j .b) ≡ StraightRun)) there (exchanged-fills, exchanged-case)
 
-  pub side-over : {S : Type 0} (step : S → ℕ → ℕ → S) (state : S) (r : Placed) → block r ≡ exchanged (block k) → over-block step state w (block r) at ≡ over-block step state w (block k) at
+  pub side-over : {S : Type 0} (step : S → ℕ → ℕ → S) (state : S) (r : Placed) → block r ≡ exchanged k → over-block step state w (block r) at ≡ over-block step state w k at
   unfolding exchanged
   side-over step state r there =
       ap (λ zs. over step state at (map (place w) zs))
       (ap curve there
-      ∙ rule (exchanged (block k)) StraightRun (exchanged-fills .inside .sized) exchanged-case .0
-      ∙ sym (rule (block k) StraightSide (f .inside .sized) c .0))
+      ∙ rule (exchanged k) StraightRun (exchanged-fills .inside .sized) exchanged-case .0
+      ∙ sym (rule k StraightSide (f .inside .sized) c .0))
 
-  pub side-count : (r : Placed) → block r ≡ exchanged (block k) → length (blocks (block r)) ≡ length (blocks (block k))
+  pub side-count : (r : Placed) → block r ≡ exchanged k → length (blocks (block r)) ≡ length (blocks k)
   unfolding exchanged
   side-count r there =
       ap (λ j. length (blocks j)) there
-      ∙ ap length (rule (exchanged (block k)) StraightRun (exchanged-fills .inside .sized) exchanged-case .1)
-      ∙ sym (ap length (rule (block k) StraightSide (f .inside .sized) c .1))
+      ∙ ap length (rule (exchanged k) StraightRun (exchanged-fills .inside .sized) exchanged-case .1)
+      ∙ sym (ap length (rule k StraightSide (f .inside .sized) c .1))

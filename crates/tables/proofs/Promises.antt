@@ -8,14 +8,14 @@ use native.Mathlib.Omega.{arith}
 use borrow.Author.Tests.{eqb-true}
 use lib.Dec.{eqb, lit≤, lit<}
 use lib.ListN.{length, getD}
+use Rattle.division.specs.Division.Small.{blocks-two}
 use Rattle.terms.specs.Terms.{accepted, Figures, answered}
 use Rattle.terms.proofs.Laws.{limits, refusal-one, refusal-some}
-use Rattle.division.specs.Division.{square, whole, square-of, number-of, blocks}
+use Rattle.division.specs.Division.{square, whole, square-of, number-of, blocks, +x, +y}
 use Rattle.division.proofs.Blocks.{whole-inside, few-blocks}
 use Rattle.tables.specs.declared.FillAnswer as FillAnswers
 use Rattle.tables.specs.declared.CheckAnswer as CheckAnswers
 use Rattle.tables.specs.Tables.{by-number, by-square, due-by, judged, unless-refused, fill, check, fill-figures, check-figures}
-use Rattle.tables.proofs.Quads.{two-by-two}
 use Rattle.tables.proofs.Whole.{taken, given}
 use Rattle.tables.proofs.Judged.{judged-right}
 use Rattle.tables.proofs.Listed.{place-holds, values-below, due-there, looked-for, looked-below, looked-at, due-length}
@@ -138,5 +138,5 @@ made-up-count n promise =
     let one = ap (value 0) (promise 1 1 (0 ∷ []) one-square refl ∙ taken 1 1 (0 ∷ []) 1 (answered (length (blocks (whole 1 1)) ∷ [])) one-square refl) in
     let four = ap (value 0) (promise 2 2 (0 ∷ 0 ∷ 0 ∷ 0 ∷ []) four-squares refl ∙ taken 2 2 (0 ∷ 0 ∷ 0 ∷ 0 ∷ []) 1 (answered (length (blocks (whole 2 2)) ∷ [])) four-squares refl) in
     let few = few-reported 1 1 (lit≤ tt) (lit≤ tt) in
-    let is = two-by-two (whole 2 2) refl refl .1 in
+    let is = blocks-two (square 0 0) +x +y in
     omega arith

@@ -1,11 +1,11 @@
 -- A call on the table of a whole area: its refusals, and that refusal 9 never arises.
 use mathlib.Core.Bool.{Bool, true, false}
 use mathlib.Core.List.{List, [], _∷_}
-use mathlib.Core.Path.{_≡_, refl, sym, ap, _∙_}
+use mathlib.Core.Path.{_≡_, refl, ap, _∙_}
 use Prim.Native.Nat.{ℕ, _+_, _*_, _<_}
 use native.Mathlib.Omega.{arith}
-use borrow.Author.Tests.{eq-eqb, ne-eqb, eqb-true, eqb-false, le-ltb}
-use lib.Dec.{ltb, eqb}
+use borrow.Author.Tests.{eq-eqb, ne-eqb, le-ltb}
+use lib.Dec.{ltb}
 use lib.ListN.{length}
 use Rattle.terms.specs.declared.Refusal.{Refusal}
 use Rattle.terms.specs.declared.Refusal.the-variants.{AreaLimit, TableLength}
@@ -15,7 +15,7 @@ use Rattle.division.specs.Division.{whole, curve, blocks-holding, count}
 use Rattle.division.proofs.Blocks.{whole-inside, at-most-54}
 use Rattle.division.proofs.Walks.{product-limit}
 use Rattle.tables.specs.Tables.{some-deep, on-table, unless-refused}
-use Rattle.tables.specs.Walk.{Fills}
+use Rattle.leaves.specs.Walk.{Fills}
 
 none-counted : {X : Type 0} (f : X → Bool) (zs : List X) → ((z : X) → f z ≡ false) → count f zs ≡ 0
 unfolding count
@@ -64,15 +64,3 @@ unfolding whole
 whole-fills w h t ok size =
     let all = limits w h ok in
     record { w-limit = all .w-most; h-limit = all .h-most; inside = whole-inside w h (all .w-least) (all .h-least); size = size; room = omega arith }
-
--- what a fill leaves where it is not refused may be put another way
-module _ (w h : ℕ) (t : List ℕ) (n : ℕ) (answer : Figures) (x y : List ℕ) (same : accepted w h ≡ true → length t ≡ w * h → x ≡ y) where
-  filled-by : (a b : Bool) → accepted w h ≡ a → eqb (length t) (w * h) ≡ b → unless-refused (on-table w h t n answer) x t ≡ unless-refused (on-table w h t n answer) y t
-  filled-by true true p q = ap (λ z. unless-refused (on-table w h t n answer) z t) (same p (eqb-true (length t) (w * h) q))
-  filled-by true false p q =
-      let is = length-refused w h t n answer p (eqb-false (length t) (w * h) q) in
-      sym (kept TableLength n x t is) ∙ kept TableLength n y t is
-  filled-by false b p q = let is = area-refused w h t n answer p in sym (kept AreaLimit n x t is) ∙ kept AreaLimit n y t is
-
-  pub filled-as : unless-refused (on-table w h t n answer) x t ≡ unless-refused (on-table w h t n answer) y t
-  filled-as = filled-by (accepted w h) (eqb (length t) (w * h)) refl refl

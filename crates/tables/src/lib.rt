@@ -3,16 +3,13 @@ use division::Choice;
 use division::Placed;
 use terms::Area;
 use terms::Refusal;
-ghost use mathlib.Core.Bool.{cond};
 ghost use mathlib.Core.Path.{_≡_};
-ghost use Prim.Native.Nat.{_+_, _*_, _≤_, _<_};
 ghost use lib.ListN.{length};
-ghost use Rattle.division.specs.declared.Choice.the-variants.{StraightRun, StraightSide, LongCut, UCut};
-ghost use Rattle.division.specs.Division.{square, choice, blocks, whole};
-ghost use Rattle.division.specs.Division.Inside.{Inside};
-ghost use Rattle.division.specs.Forms.{block};
+ghost use Rattle.division.specs.declared.Choice.the-variants.{LongCut, UCut};
+ghost use Rattle.division.specs.Division.{choice, blocks, whole};
+ghost use Rattle.division.specs.Forms.{block, block-at};
 ghost use Rattle.tables.specs.Tables.{by-number, by-square, unless-refused, due-by, fill, fill-figures, check, check-figures};
-ghost use Rattle.tables.specs.Walk.{place, entered, walked, exchanged, Cornered, Fills, least-one, checked};
+ghost use Rattle.leaves.specs.Walk.{walked, exchanged, Fills, checked};
 
 // What a fill answers.
 pub enum FillAnswer {
@@ -25,36 +22,6 @@ pub enum CheckAnswer {
     Right,
     Wrong { place: u32, due: u32 },
     Refused(Refusal),
-}
-
-// A square's place in a table by square.
-fn place_of(along: u32, across: u32, turned: bool, w: u32) -> u32
-    requires { ⌜ place w (cond turned (square across along) (square along across)) < 4294967296 ⌝ }
-    ensures { λ r. ⌜ r ≡ place w (cond turned (square across along) (square along across)) ⌝ }
-{
-    division::either(turned, along, across) * w + division::either(turned, across, along)
-}
-
-// Enters square number n, which has the place p.
-fn enter(table: &mut [u32], n: u32, p: u32, by_square: bool)
-    requires { ⌜ (n < length (now table)) × (p < length (now table)) ⌝ }
-    ensures { λ r. ⌜ now (table .exit) ≡ entered «by_square» (now (table .entry)) n p ⌝ }
-{
-    let i = division::either(by_square, p, n) as usize;
-    table[i] = division::either(by_square, n, p);
-}
-
-// The squares of a straight block, which follow in its run.
-fn fill_run(table: &mut [u32], k: Placed, area: Area, at: u32, by_square: bool) -> u64
-    requires { ⌜ Fills (area .w) (area .h) (now table) (block k) at × (choice (k .a) (k .b) ≡ StraightRun) ⌝ }
-    ensures { λ r. ⌜ (now (table .exit) ≡ walked «by_square» (area .w) (now (table .entry)) (block k) at) × (r ≡ length (blocks (block k))) ⌝ }
-{
-    let w = area.w;
-    for i in 0..k.a {
-        let p = place_of(division::stepped(k.along, i, k.back), k.across, k.turned, w);
-        enter(table, at + i, p, by_square);
-    }
-    1
 }
 
 // A block with run and side exchanged.
@@ -71,65 +38,58 @@ fn exchanged_block(k: Placed) -> Placed
     }
 }
 
-// Enters two squares, numbered on from n.
-fn enter_two(table: &mut [u32], n: u32, p: u32, q: u32, by_square: bool)
-    requires { ⌜ (n + 1 < 4294967296) × (n + 1 < length (now table)) × (p < length (now table)) × (q < length (now table)) ⌝ }
-    ensures { λ r. ⌜ now (table .exit) ≡ entered «by_square» (entered «by_square» (now (table .entry)) n p) (n + 1) q ⌝ }
-{
-    enter(table, n, p, by_square);
-    enter(table, n + 1, q, by_square);
-}
-
-// The places of the four squares of a 2 by 2 block, in the curve's order.
-struct Quad {
-    p: u32,
-    q: u32,
-    r: u32,
-    s: u32,
-}
-
-fn quad_places(k: Placed, area: Area) -> Quad
-    requires { ⌜ Inside (area .w) (area .h) (block k) × (area .w ≤ 65535) × (area .h ≤ 65535) × (k .a ≡ 2) × (k .b ≡ 2) ⌝ }
-    ensures { λ r. ⌜ Cornered (area .w) (block k) (r .p) (r .q) (r .r) (r .s) ⌝ }
-{
-    let w = area.w;
-    let far = division::stepped(k.along, 1, k.back);
-    let up = division::stepped(k.across, 1, k.back);
-    Quad {
-        p: place_of(k.along, k.across, k.turned, w),
-        q: place_of(k.along, up, k.turned, w),
-        r: place_of(far, up, k.turned, w),
-        s: place_of(far, k.across, k.turned, w),
-    }
-}
-
-// The four squares of a 2 by 2 block, at once: most of a large area's squares lie in one.
-fn fill_quad(table: &mut [u32], k: Placed, area: Area, at: u32, by_square: bool) -> u64
-    requires { ⌜ Fills (area .w) (area .h) (now table) (block k) at × (k .a ≡ 2) × (k .b ≡ 2) ⌝ }
-    ensures { λ r. ⌜ (now (table .exit) ≡ walked «by_square» (area .w) (now (table .entry)) (block k) at) × (r ≡ length (blocks (block k))) ⌝ }
-{
-    let to = quad_places(k, area);
-    enter_two(table, at, to.p, to.q, by_square);
-    enter_two(table, at + 2, to.r, to.s, by_square);
-    4
-}
-
-// A block by its case. It and the two cuts call each other; the block's area falls.
+// A block, its fields handed on one by one: handed on whole it would be copied at each call, which nearly doubles the time.
 fn fill_block(table: &mut [u32], k: Placed, area: Area, at: u32, by_square: bool) -> u64
     requires { ⌜ Fills (area .w) (area .h) (now table) (block k) at ⌝ }
     ensures { λ r. ⌜ (now (table .exit) ≡ walked «by_square» (area .w) (now (table .entry)) (block k) at) × (r ≡ length (blocks (block k))) ⌝ }
 {
-    let a = k.a;
-    let b = k.b;
+    fill_choice(
+        table,
+        k.along,
+        k.across,
+        k.turned,
+        k.back,
+        k.a,
+        k.b,
+        area,
+        at,
+        by_square,
+    )
+}
+
+// A block by its case. It and the two cuts call each other; the block's area falls.
+fn fill_choice(
+    table: &mut [u32],
+    along: u32,
+    across: u32,
+    turned: bool,
+    back: bool,
+    a: u32,
+    b: u32,
+    area: Area,
+    at: u32,
+    by_square: bool,
+) -> u64
+    requires { ⌜ Fills (area .w) (area .h) (now table) (block-at along across turned back a b) at ⌝ }
+    ensures { λ r. ⌜ (now (table .exit) ≡ walked «by_square» (area .w) (now (table .entry)) (block-at along across turned back a b) at) × (r ≡ length (blocks (block-at along across turned back a b))) ⌝ }
+{
+    let k = Placed {
+        along: along,
+        across: across,
+        turned: turned,
+        back: back,
+        a: a,
+        b: b,
+    };
     let case = division::choose(a, b);
     match case {
-        Choice::StraightRun => fill_run(table, k, area, at, by_square),
-        Choice::StraightSide => fill_run(table, exchanged_block(k), area, at, by_square),
+        Choice::StraightRun => leaves::fill_run(table, k, area, at, by_square),
+        Choice::StraightSide => leaves::fill_run(table, exchanged_block(k), area, at, by_square),
         Choice::LongCut => fill_long_cut(table, k, area, at, by_square),
         Choice::UCut => {
             if a == 2 {
-                if b == 2 {
-                    return fill_quad(table, k, area, at, by_square);
+                if b <= 3 {
+                    return leaves::fill_leaf(table, k, area, at, by_square);
                 }
             }
             fill_u_cut(table, k, area, at, by_square)
@@ -185,7 +145,7 @@ fn whole_block(area: Area) -> Placed
 // Fills a table of either kind for a whole area.
 fn fill_whole(area: Area, table: &mut [u32], by_square: bool) -> FillAnswer
     ensures { λ r. ⌜ (fill-figures r ≡ fill (area .w) (area .h) (now (table .entry)))
-        × (now (table .exit) ≡ unless-refused (fill (area .w) (area .h) (now (table .entry))) (walked «by_square» (area .w) (now (table .entry)) (whole (area .w) (area .h)) 0) (now (table .entry))) ⌝ }
+        × (now (table .exit) ≡ unless-refused (fill (area .w) (area .h) (now (table .entry))) (due-by «by_square» (area .w) (area .h)) (now (table .entry))) ⌝ }
 {
     let w = area.w;
     let h = area.h;
@@ -215,66 +175,67 @@ pub fn fill_by_square(area: Area, table: &mut [u32]) -> FillAnswer
     fill_whole(area, table, true)
 }
 
-// The least wrong place so far, with square number n, which has the place p, looked at.
-fn compare(table: &[u32], n: u32, p: u32, by_square: bool, least: u64) -> u64
-    requires { ⌜ (n < length (now table)) × (p < length (now table)) ⌝ }
-    ensures { λ r. ⌜ r ≡ least-one «by_square» (now (table .entry)) least n p ⌝ }
-{
-    let place = division::either(by_square, p, n);
-    let due = division::either(by_square, n, p);
-    let i = place as usize;
-    if table[i] == due {
-        return least;
-    }
-    let wrong = place as u64 * 4294967296 + due as u64;
-    if wrong < least {
-        return wrong;
-    }
-    least
-}
-
-// The squares of a straight block, which follow in its run.
-fn check_run(table: &[u32], k: Placed, area: Area, at: u32, by_square: bool, so_far: u64) -> u64
-    requires { ⌜ Fills (area .w) (area .h) (now table) (block k) at × (choice (k .a) (k .b) ≡ StraightRun) ⌝ }
-    ensures { λ r. ⌜ r ≡ checked «by_square» (area .w) (now (table .entry)) (block k) at «so_far» ⌝ }
-{
-    let w = area.w;
-    let mut least = so_far;
-    for i in 0..k.a {
-        let p = place_of(division::stepped(k.along, i, k.back), k.across, k.turned, w);
-        least = compare(table, at + i, p, by_square, least);
-    }
-    least
-}
-
-// The four squares of a 2 by 2 block, at once.
-fn check_quad(table: &[u32], k: Placed, area: Area, at: u32, by_square: bool, so_far: u64) -> u64
-    requires { ⌜ Fills (area .w) (area .h) (now table) (block k) at × (k .a ≡ 2) × (k .b ≡ 2) ⌝ }
-    ensures { λ r. ⌜ r ≡ checked «by_square» (area .w) (now (table .entry)) (block k) at «so_far» ⌝ }
-{
-    let of = quad_places(k, area);
-    let first = compare(table, at, of.p, by_square, so_far);
-    let second = compare(table, at + 1, of.q, by_square, first);
-    let third = compare(table, at + 2, of.r, by_square, second);
-    compare(table, at + 3, of.s, by_square, third)
-}
-
-// A block by its case. It and the two cuts call each other; the block's area falls.
+// A block, its fields handed on one by one: handed on whole it would be copied at each call, which nearly doubles the time.
 fn check_block(table: &[u32], k: Placed, area: Area, at: u32, by_square: bool, so_far: u64) -> u64
     requires { ⌜ Fills (area .w) (area .h) (now table) (block k) at ⌝ }
     ensures { λ r. ⌜ r ≡ checked «by_square» (area .w) (now (table .entry)) (block k) at «so_far» ⌝ }
 {
-    let a = k.a;
-    let b = k.b;
+    check_choice(
+        table,
+        k.along,
+        k.across,
+        k.turned,
+        k.back,
+        k.a,
+        k.b,
+        area,
+        at,
+        by_square,
+        so_far,
+    )
+}
+
+// A block by its case. It and the two cuts call each other; the block's area falls.
+fn check_choice(
+    table: &[u32],
+    along: u32,
+    across: u32,
+    turned: bool,
+    back: bool,
+    a: u32,
+    b: u32,
+    area: Area,
+    at: u32,
+    by_square: bool,
+    so_far: u64,
+) -> u64
+    requires { ⌜ Fills (area .w) (area .h) (now table) (block-at along across turned back a b) at ⌝ }
+    ensures { λ r. ⌜ r ≡ checked «by_square» (area .w) (now (table .entry)) (block-at along across turned back a b) at «so_far» ⌝ }
+{
+    let k = Placed {
+        along: along,
+        across: across,
+        turned: turned,
+        back: back,
+        a: a,
+        b: b,
+    };
     let case = division::choose(a, b);
     match case {
-        Choice::StraightRun => check_run(table, k, area, at, by_square, so_far),
-        Choice::StraightSide => check_run(table, exchanged_block(k), area, at, by_square, so_far),
+        Choice::StraightRun => leaves::check_run(table, k, area, at, by_square, so_far),
+        Choice::StraightSide => leaves::check_run(
+            table,
+            exchanged_block(k),
+            area,
+            at,
+            by_square,
+            so_far,
+        ),
         Choice::LongCut => check_long_cut(table, k, area, at, by_square, so_far),
         Choice::UCut => {
             if a == 2 {
-                if b == 2 {
-                    return check_quad(table, k, area, at, by_square, so_far);
+                if b <= 3 {
+                    return leaves::check_leaf(table, k, area, at, by_square, so_far);
                 }
             }
             check_u_cut(table, k, area, at, by_square, so_far)

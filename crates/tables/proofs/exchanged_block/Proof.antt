@@ -3,7 +3,7 @@ use mathlib.Core.Bool.{Bool, true, false, not}
 use mathlib.Core.Path.{_≡_, refl}
 use Prim.Native.Nat.{ℕ}
 use Rattle.division.specs.Forms.{block}
-use Rattle.tables.specs.Walk.{exchanged}
+use Rattle.leaves.specs.Walk.{exchanged}
 use Rattle.tables.proofs.exchanged_block.Statement.{statement}
 use Rattle.tables.proofs.exchanged_block.Tie as tie
 

@@ -1,0 +1,102 @@
+-- Entries in a table: those of two lists in a row are those of the lists joined, and a block's places lie in its area's table.
+use mathlib.Core.Bool.{Bool, true, false, cond}
+use mathlib.Core.List.{List, [], _∷_, _++_, map, map-append}
+use mathlib.Core.Path.{_≡_, refl, sym, ap, subst, _∙_}
+use Prim.Native.Nat.{ℕ, zero, suc, _+_, _*_, _≤_, _<_}
+use native.Mathlib.Nat.{add-zero, add-suc, suc-add, suc-mul, mul-comm, mul-one, mul-le-mul, mul-le-mul-right}
+use native.Mathlib.Omega.{arith}
+use lib.ListN.{length, length-set, length-map}
+use Rattle.division.specs.declared.Choice.the-variants.{StraightRun}
+use Rattle.division.specs.declared.Placed.{Placed}
+use Rattle.division.specs.Division.{Square, Block, square, Direction, choice, moved, row, blocks}
+use Rattle.division.specs.Division.Inside.{Inside}
+use Rattle.division.specs.Division.Rules.{rule, run-length}
+use Rattle.division.specs.Forms.{block, stepped-to}
+use Rattle.division.proofs.Plane.{moved-none}
+use Rattle.division.proofs.Descent.{row-more}
+use Rattle.division.proofs.Local.{Within, spot, spot-inside}
+use Rattle.division.proofs.Walks.{run-moved, inside-grow}
+use Rattle.leaves.specs.Walk.{place, over, over-block, entered, Fills}
+
+-- a square's place in a table of either kind
+pub either-below : (n p size : ℕ) (by-square : Bool) → n < size → p < size → cond by-square p n < size
+either-below n p size true l m = m
+either-below n p size false l m = l
+
+pub entered-length : (by-square : Bool) (t : List ℕ) (n : ℕ) (ps : List ℕ) → length (over (entered by-square) t n ps) ≡ length t
+unfolding over
+entered-length by-square t n [] = refl
+entered-length by-square t n (p ∷ ps) = entered-length by-square (entered by-square t n p) (suc n) ps ∙ length-set t (cond by-square p n) (cond by-square n p)
+
+-- two lists in a row are the lists joined
+pub over-append : {S : Type 0} (step : S → ℕ → ℕ → S) (state : S) (n : ℕ) (ps qs : List ℕ) → over step state n (ps ++ qs) ≡ over step (over step state n ps) (n + length ps) qs
+unfolding over
+over-append step state n [] qs = ap (λ m. over step state m qs) (sym (add-zero n))
+over-append step state n (p ∷ ps) qs =
+    over-append step (step state n p) (suc n) ps qs
+    ∙ ap (λ m. over step (over step (step state n p) (suc n) ps) m qs) (suc-add n (length ps) ∙ sym (add-suc n (length ps)))
+
+row-count : (d : Direction) (n : ℕ) (s : Square) → length (row d n s) ≡ n
+unfolding row
+row-count d zero s = refl
+row-count d (suc n) s = ap suc (row-count d n (moved d 1 s))
+
+-- one square of a row more
+pub row-over : {S : Type 0} (step : S → ℕ → ℕ → S) (state : S) (w at : ℕ) (d : Direction) (i : ℕ) (s : Square)
+    → over step state at (map (place w) (row d (suc i) s)) ≡ step (over step state at (map (place w) (row d i s))) (at + i) (place w (moved d i s))
+unfolding over
+row-over step state w at d i s =
+    ap (λ zs. over step state at (map (place w) zs)) (row-more d i s)
+    ∙ ap (over step state at) (map-append (place w) (row d i s) (moved d i s ∷ []))
+    ∙ over-append step state at (map (place w) (row d i s)) (place w (moved d i s) ∷ [])
+    ∙ ap (λ m. step (over step state at (map (place w) (row d i s))) (at + m) (place w (moved d i s))) (length-map (row d i s) (place w) ∙ row-count d i s)
+
+-- a square of the area has its place in the table
+pub place-below : (w h : ℕ) (s : Square) → Within w h s → place w s < w * h
+place-below w h s l =
+    let rows : suc (s .y) * w ≤ h * w = mul-le-mul-right w (l .side) in
+    let more : suc (s .y) * w ≡ s .y * w + w = suc-mul (s .y) w in
+    let x = l .run in
+    omega (arith, mul-comm w h)
+
+-- What a walk knows of its block.
+pub largest : {w h : ℕ} {t : List ℕ} {k : Block} {at : ℕ} → Fills w h t k at → Inside 65535 65535 k
+largest {w} {h} {k = k} f = inside-grow w h 65535 65535 (f .w-limit) (f .h-limit) k (f .inside)
+
+module _ (k : Placed) {w h : ℕ} {t : List ℕ} {at : ℕ} (f : Fills w h t (block k) at) where
+  pub squares-fit : w * h < 4294967296
+  squares-fit = let p : w * h ≤ 65535 * 65535 = mul-le-mul (f .w-limit) (f .h-limit) in omega arith
+
+  -- a square of the block has its place in the table
+  pub spot-below : (s : Square) → Within (k .a) (k .b) s → place w (spot (block k) s) < w * h
+  spot-below s l = place-below w h (spot (block k) s) (spot-inside w h (block k) (f .inside) s l)
+
+  -- along the run of a straight block
+  module _ (c : choice (k .a) (k .b) ≡ StraightRun) (i : ℕ) (l : i < k .a) where
+    one-wide : k .b ≡ 1
+    one-wide = run-length (block k) (f .inside .sized) c
+
+    pub run-number : at + i < w * h
+    run-number =
+        let all : k .a * k .b ≡ k .a = ap (λ n. k .a * n) one-wide ∙ mul-one (k .a) in
+        let room = f .room in
+        omega arith
+
+    pub run-place : (there : ℕ) → there ≡ stepped-to (k .along) i (k .back)
+        → place w (cond (k .turned) (square (k .across) there) (square there (k .across))) ≡ place w (moved (block k .run) i (block k .start))
+    run-place there e =
+        ap (place w)
+        (ap (λ n. cond (k .turned) (square (k .across) n) (square n (k .across))) e ∙ run-moved (k .along) (k .across) (k .turned) (k .back) i)
+
+    pub run-below : place w (moved (block k .run) i (block k .start)) < w * h
+    unfolding spot
+    run-below =
+        subst (λ (s : Square). place w s < w * h) (moved-none (block k .side) (moved (block k .run) i (block k .start)))
+        (spot-below (square i 0) (record { run = l; side = let one = one-wide in omega arith }))
+
+  pub run-over : {S : Type 0} (step : S → ℕ → ℕ → S) (state : S) → choice (k .a) (k .b) ≡ StraightRun
+      → over step state at (map (place w) (row (block k .run) (k .a) (block k .start))) ≡ over-block step state w (block k) at
+  run-over step state c = ap (λ zs. over step state at (map (place w) zs)) (sym (rule (block k) StraightRun (f .inside .sized) c .0))
+
+  pub run-count : choice (k .a) (k .b) ≡ StraightRun → 1 ≡ length (blocks (block k))
+  run-count c = sym (ap length (rule (block k) StraightRun (f .inside .sized) c .1))

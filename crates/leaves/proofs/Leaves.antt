@@ -1,0 +1,132 @@
+-- A block 2 wide and 2 or 3 deep: its squares, which go up its side and down again, its four blocks, and a walk over it two squares at a time.
+use mathlib.Core.Bool.{Bool, true, false, not, cond}
+use mathlib.Core.List.{List, [], _∷_, map}
+use mathlib.Core.Path.{_≡_, refl, sym, ap, ap₂, subst⁻¹, _∙_}
+use Prim.Native.Nat.{ℕ, _+_, _*_, _≤_, _<_}
+use native.Mathlib.Numerals.{add-one, add-two}
+use native.Mathlib.Nat.{mul-le-mul}
+use native.Mathlib.Omega.{arith}
+use lib.ListN.{length}
+use Rattle.division.specs.declared.Placed.{Placed}
+use Rattle.division.specs.Division.{Square, square, Block, whole, moved, curve, blocks}
+use Rattle.division.specs.Division.Inside.{Inside}
+use Rattle.division.specs.Forms.{direction, block, stepped-to}
+use Rattle.division.proofs.Plane.{moved-none}
+use Rattle.division.proofs.Local.{spot, spot-inside, curve-alike}
+use Rattle.division.specs.Division.Small.{two-deep, three-deep, blocks-two, blocks-three}
+use Rattle.division.proofs.Walks.{side-moved}
+use Rattle.leaves.specs.Walk.{place, over, over-block, near, far, Fills}
+use Rattle.leaves.proofs.Entries.{place-below}
+
+-- two steps on the squares numbered n and n + 1
+abbrev twice : {S : Type 0} → (S → ℕ → ℕ → S) → S → (n p q : ℕ) → S
+twice step state n p q = step (step state n p) (n + 1) q
+
+over-two : {S : Type 0} (step : S → ℕ → ℕ → S) (state : S) (n p q : ℕ) (ps : List ℕ) → over step state n (p ∷ q ∷ ps) ≡ over step (twice step state n p q) (n + 2) ps
+unfolding over
+over-two step state n p q ps = simp (add-one, add-two) refl
+
+module _ {w h : ℕ} {k : Block} (i : Inside w h k) (ea : k .a ≡ 2) where
+  near-spot : (v : ℕ) → spot k (square 0 v) ≡ near k v
+  unfolding spot
+  near-spot v = ap (moved (k .side) v) (moved-none (k .run) (k .start))
+
+  pub near-below : (v : ℕ) → v < k .b → {p : ℕ} → p ≡ place w (near k v) → p < w * h
+  near-below v l is =
+      subst⁻¹ (λ (n : ℕ). n < w * h) (is ∙ ap (place w) (sym (near-spot v)))
+      (place-below w h (spot k (square 0 v)) (spot-inside w h k i (square 0 v) (record { run = omega arith; side = l })))
+
+  pub far-below : (v : ℕ) → v < k .b → {p : ℕ} → p ≡ place w (far k v) → p < w * h
+  unfolding spot
+  far-below v l is =
+      subst⁻¹ (λ (n : ℕ). n < w * h) is
+      (place-below w h (spot k (square 1 v)) (spot-inside w h k i (square 1 v) (record { run = omega arith; side = l })))
+
+  -- a block's squares, from those of the area of its lengths
+  up-and-down : (b : ℕ) → k .b ≡ b → (ss : List Square) → curve (whole 2 b) ≡ ss → curve k ≡ map (spot k) ss
+  up-and-down b eb ss is = curve-alike w h k i ∙ ap₂ (λ m n. map (spot k) (curve (whole m n))) ea eb ∙ ap (map (spot k)) is
+
+  squares-two : k .b ≡ 2 → curve k ≡ near k 0 ∷ near k 1 ∷ far k 1 ∷ far k 0 ∷ []
+  unfolding spot
+  squares-two eb = up-and-down 2 eb _ two-deep ∙ (λ j. near-spot 0 j ∷ near-spot 1 j ∷ far k 1 ∷ far k 0 ∷ [])
+
+  squares-three : k .b ≡ 3 → curve k ≡ near k 0 ∷ near k 1 ∷ near k 2 ∷ far k 2 ∷ far k 1 ∷ far k 0 ∷ []
+  unfolding spot
+  squares-three eb = up-and-down 3 eb _ three-deep ∙ (λ j. near-spot 0 j ∷ near-spot 1 j ∷ near-spot 2 j ∷ far k 2 ∷ far k 1 ∷ far k 0 ∷ [])
+
+  pub count-two-deep : k .b ≡ 2 → 4 ≡ length (blocks k)
+  count-two-deep eb = blocks-two (k .start) (k .run) (k .side) ∙ (λ j. length (blocks (record { start = k .start; run = k .run; a = sym ea j; side = k .side; b = sym eb j })))
+
+  pub count-three-deep : k .b ≡ 3 → 4 ≡ length (blocks k)
+  count-three-deep eb = blocks-three (k .start) (k .run) (k .side) ∙ (λ j. length (blocks (record { start = k .start; run = k .run; a = sym ea j; side = k .side; b = sym eb j })))
+
+  -- steps on the squares two by two, as the code takes them, and the walk over the block
+  module _ {S : Type 0} (step : S → ℕ → ℕ → S) (state : S) (at : ℕ) {p₀ p₁ q₀ q₁ : ℕ} (near₀ : p₀ ≡ place w (near k 0)) (near₁ : p₁ ≡ place w (near k 1))
+      (far₁ : q₁ ≡ place w (far k 1)) (far₀ : q₀ ≡ place w (far k 0)) {first : S} (one : first ≡ twice step state at p₀ p₁) where
+    pub over-two-deep : k .b ≡ 2 → {last : S} → last ≡ twice step first (at + 2) q₁ q₀ → last ≡ over-block step state w k at
+    unfolding over
+    over-two-deep eb two =
+        two
+        ∙ (λ j. twice step (one j) (at + 2) (far₁ j) (far₀ j))
+        ∙ (λ j. twice step (twice step state at (near₀ j) (near₁ j)) (at + 2) (place w (far k 1)) (place w (far k 0)))
+        ∙ sym
+        (ap (λ ss. over step state at (map (place w) ss)) (squares-two eb)
+        ∙ over-two step state at (place w (near k 0)) (place w (near k 1)) (place w (far k 1) ∷ place w (far k 0) ∷ [])
+        ∙ over-two step (twice step state at (place w (near k 0)) (place w (near k 1))) (at + 2) (place w (far k 1)) (place w (far k 0)) [])
+
+    pub over-three-deep : k .b ≡ 3 → {p₂ q₂ : ℕ} → p₂ ≡ place w (near k 2) → q₂ ≡ place w (far k 2) → {second last : S}
+        → second ≡ twice step first (at + 2) p₂ q₂ → last ≡ twice step second (at + 4) q₁ q₀ → last ≡ over-block step state w k at
+    unfolding over
+    over-three-deep eb near₂ far₂ two three =
+        let low = twice step state at (place w (near k 0)) (place w (near k 1)) in
+        let high = twice step low (at + 2) (place w (near k 2)) (place w (far k 2)) in
+        let down = place w (far k 1) ∷ place w (far k 0) ∷ [] in
+        let on : at + 2 + 2 ≡ at + 4 = omega arith in
+        three
+        ∙ (λ j. twice step (two j) (at + 4) (far₁ j) (far₀ j))
+        ∙ (λ j. twice step (twice step (one j) (at + 2) (near₂ j) (far₂ j)) (at + 4) (place w (far k 1)) (place w (far k 0)))
+        ∙ (λ j. twice step (twice step (twice step state at (near₀ j) (near₁ j)) (at + 2) (place w (near k 2)) (place w (far k 2))) (at + 4) (place w (far k 1)) (place w (far k 0)))
+        ∙ sym
+        (ap (λ ss. over step state at (map (place w) ss)) (squares-three eb)
+        ∙ over-two step state at (place w (near k 0)) (place w (near k 1)) (place w (near k 2) ∷ place w (far k 2) ∷ down)
+        ∙ over-two step low (at + 2) (place w (near k 2)) (place w (far k 2)) down
+        ∙ ap (λ n. over step high n down) on
+        ∙ over-two step high (at + 4) (place w (far k 1)) (place w (far k 0)) [])
+
+-- the places of a rung, as its code has them
+both-moved : (along across : ℕ) (turned back : Bool) (v : ℕ)
+    → cond turned (square (stepped-to across v back) (stepped-to along 1 back)) (square (stepped-to along 1 back) (stepped-to across v back))
+    ≡ moved (direction (not turned) back) v (moved (direction turned back) 1 (cond turned (square across along) (square along across)))
+unfolding moved
+both-moved along across false false v = refl
+both-moved along across false true v = refl
+both-moved along across true false v = refl
+both-moved along across true true v = refl
+
+module _ (k : Placed) (w v : ℕ) {beyond up : ℕ} (eb : beyond ≡ stepped-to (k .along) 1 (k .back)) (eu : up ≡ stepped-to (k .across) v (k .back)) where
+  pub near-is : place w (cond (k .turned) (square up (k .along)) (square (k .along) up)) ≡ place w (near (block k) v)
+  near-is =
+      ap (place w)
+      (ap (λ n. cond (k .turned) (square n (k .along)) (square (k .along) n)) eu ∙ side-moved (k .along) (k .across) (k .turned) (k .back) v)
+
+  pub far-is : place w (cond (k .turned) (square up beyond) (square beyond up)) ≡ place w (far (block k) v)
+  far-is =
+      ap (place w)
+      (ap₂ (λ m n. cond (k .turned) (square m n) (square n m)) eu eb ∙ both-moved (k .along) (k .across) (k .turned) (k .back) v)
+
+-- room for two numbers of a leaf, and for their squares' places
+pub leaf-two : {w h : ℕ} {t : List ℕ} {k : Block} {at : ℕ} → Fills w h t k at → k .a ≡ 2 → (t′ : List ℕ) → length t′ ≡ length t → (n : ℕ) → n + 2 ≤ at + 2 * k .b
+    → {p q : ℕ} → p < w * h → q < w * h → (n + 1 < 4294967296) × (n + 1 < length t′) × (p < length t′) × (q < length t′)
+leaf-two {k = k} f ea t′ same n l below-p below-q =
+    let all : k .a * k .b ≡ 2 * k .b = ap (λ m. m * k .b) ea in
+    let room = f .room in
+    let size = f .size in
+    let fits = mul-le-mul (f .w-limit) (f .h-limit) in
+    (omega arith, omega arith, omega arith, omega arith)
+
+pub leaf-number : {w h : ℕ} {t : List ℕ} {k : Block} {at : ℕ} → Fills w h t k at → k .a ≡ 2 → (n : ℕ) → n ≤ 2 * k .b → at + n < 4294967296
+leaf-number {k = k} f ea n l =
+    let all : k .a * k .b ≡ 2 * k .b = ap (λ m. m * k .b) ea in
+    let room = f .room in
+    let fits = mul-le-mul (f .w-limit) (f .h-limit) in
+    omega arith

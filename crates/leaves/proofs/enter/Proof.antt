@@ -1,0 +1,41 @@
+-- `leaves::enter` meets its contract: the place is n or p, and either is in the table.
+use borrow.Author.Needs.{needs}
+use mathlib.Core.Path.{ap₂, subst⁻¹}
+use Prim.Native.Nat.{ℕ, _<_}
+use lib.ListN.{length, set}
+use Rattle.leaves.proofs.Entries.{either-below}
+use Rattle.leaves.proofs.enter.Statement.{statement}
+use Rattle.leaves.proofs.enter.Tie as tie
+
+either-requires : tie.Need-either-requires
+either-requires c κs = search needs
+
+cast-i : tie.Need-cast-i
+cast-i c = search needs
+
+either-requires-2 : tie.Need-either-requires-2
+either-requires-2 c κs = search needs
+
+mul-table : tie.Need-mul-table
+mul-table c = search needs
+
+slice-write-table : tie.Need-slice-write-table
+slice-write-table c = subst⁻¹ (λ (i : ℕ). i < length (c .before .before .before .args .table .now)) (c .before .either .ensures) (either-below (c .before .before .before .args .n) (c .before .before .before .args .p) (length (c .before .before .before .args .table .now)) (c .before .before .before .args .by-square) (c .before .before .before .pre .0) (c .before .before .before .pre .1))
+
+same-length : tie.Need-same-length
+same-length c = search needs
+
+returns : tie.Need-returns
+returns c = ap₂ (λ i v. set (c .before .before .before .args .table .now) i v) (c .before .either .ensures) (c .either2 .ensures)
+
+pub enter-spec : {M : Type 1} → statement M
+enter-spec =
+    tie.close
+    (tie.spec
+    either-requires
+    cast-i
+    either-requires-2
+    mul-table
+    slice-write-table
+    same-length
+    returns)

@@ -1,0 +1,25 @@
+-- `leaves::enter_two` meets its contract: an entry leaves the table its length.
+use borrow.Author.Needs.{needs}
+use mathlib.Core.Path.{ap, _∙_}
+use Prim.Native.Nat.{_+_}
+use Rattle.leaves.specs.Walk.{entered}
+use Rattle.leaves.proofs.enter_two.Statement.{statement}
+use Rattle.leaves.proofs.enter_two.Tie as tie
+
+enter-requires : tie.Need-enter-requires
+enter-requires c κs = search needs
+
+add-enter : tie.Need-add-enter
+add-enter c = record { fits = c .before .before .before .before .before .before .pre .0 }
+
+enter-requires-2 : tie.Need-enter-requires-2
+enter-requires-2 c κs = search needs
+
+same-length : tie.Need-same-length
+same-length c = search needs
+
+returns : tie.Need-returns
+returns c = c .before .before .enter2 .ensures ∙ ap (λ t. entered (c .before .before .before .before .before .before .before .before .before .args .by-square) t (c .before .before .before .before .before .before .before .before .before .args .n + 1) (c .before .before .before .before .before .before .before .before .before .args .q)) (c .before .before .before .before .before .before .enter .ensures)
+
+pub enter-two-spec : {M : Type 1} → statement M
+enter-two-spec = tie.close (tie.spec enter-requires add-enter enter-requires-2 same-length returns)

@@ -1,0 +1,44 @@
+-- `leaves::place_of` meets its contract: by the bit, one coordinate counts rows and the other squares in a row.
+use borrow.Author.Needs.{needs}
+use mathlib.Core.Bool.{Bool, true, false, cond}
+use mathlib.Core.Path.{_≡_, refl, ap, ap₂, subst⁻¹, _∙_}
+use Prim.Native.Nat.{ℕ, _+_, _*_, _<_}
+use native.Mathlib.Omega.{arith}
+use Rattle.division.specs.Division.{square}
+use Rattle.leaves.specs.Walk.{place}
+use Rattle.leaves.proofs.place_of.Statement.{statement}
+use Rattle.leaves.proofs.place_of.Tie as tie
+
+place-by : (along across : ℕ) (turned : Bool) (w : ℕ)
+    → cond turned along across * w + cond turned across along ≡ place w (cond turned (square across along) (square along across))
+place-by along across true w = refl
+place-by along across false w = refl
+
+either-requires : tie.Need-either-requires
+either-requires c κs = search needs
+
+mul-result : tie.Need-mul-result
+mul-result c =
+    let start = c .before .args in
+    let is = place-by (start .along) (start .across) (start .turned) (start .w) in
+    let all = c .before .pre in
+    let row : c .either .result * start .w ≡ cond (start .turned) (start .along) (start .across) * start .w = ap (λ n. n * start .w) (c .either .ensures) in
+    record { fits = omega arith }
+
+either-requires-2 : tie.Need-either-requires-2
+either-requires-2 c κs = search needs
+
+add-result : tie.Need-add-result
+add-result c =
+    let start = c .before .before .args in
+    let is = ap₂ (λ m n. m * start .w + n) (c .before .either .ensures) (c .either2 .ensures) ∙ place-by (start .along) (start .across) (start .turned) (start .w) in
+    record { fits = subst⁻¹ (λ (n : ℕ). n < 4294967296) is (c .before .before .pre) }
+
+returns : tie.Need-returns
+returns c =
+    let start = c .before .before .args in
+    ap₂ (λ m n. m * start .w + n) (c .before .either .ensures) (c .either2 .ensures) ∙ place-by (start .along) (start .across) (start .turned) (start .w)
+
+pub place-of-spec : {M : Type 1} → statement M
+place-of-spec =
+    tie.close (tie.spec either-requires mul-result either-requires-2 add-result returns)

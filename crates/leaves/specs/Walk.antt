@@ -1,0 +1,59 @@
+-- What the walks that fill and check a table ask and leave: for each square of a block, in the curve's order, an entry stored or a place looked at.
+use mathlib.Core.Bool.{Bool, cond}
+use mathlib.Core.List.{List, [], _∷_, map}
+use mathlib.Core.Path.{_≡_}
+use Prim.Native.Nat.{ℕ, suc, _+_, _*_, _≤_, min}
+use lib.Dec.{eqb}
+use lib.ListN.{length, getD, set}
+use Rattle.division.specs.Division.{Square, Block, moved, curve}
+use Rattle.division.specs.Division.Inside.{Inside}
+
+-- A square's place in a table by square, which is what a table by number holds.
+abbrev pub place : (w : ℕ) → Square → ℕ
+place w s = s .y * w + s .x
+
+-- What a step makes of a state for each of a list of places in order, numbered on from n; so, for a block's squares, numbered on from `at`.
+unfoldable pub over : {S : Type 0} → (S → ℕ → ℕ → S) → S → (n : ℕ) → List ℕ → S
+over step state n [] = state
+over step state n (p ∷ ps) = over step (step state n p) (suc n) ps
+
+abbrev pub over-block : {S : Type 0} → (S → ℕ → ℕ → S) → S → (w : ℕ) → Block → (at : ℕ) → S
+over-block step state w k at = over step state at (map (place w) (curve k))
+
+-- The table with square number n, at place p, entered: by square n at p, else p at n. So, with a block's squares entered.
+abbrev pub entered : (by-square : Bool) → List ℕ → (n p : ℕ) → List ℕ
+entered by-square t n p = set t (cond by-square p n) (cond by-square n p)
+
+abbrev pub walked : (by-square : Bool) (w : ℕ) → List ℕ → Block → (at : ℕ) → List ℕ
+walked by-square w t k at = over-block (entered by-square) t w k at
+
+-- A wrong place and the value due there as one number: of two, the lesser place has the lesser number.
+abbrev pub wrong-at : (place due : ℕ) → ℕ
+wrong-at place due = place * 4294967296 + due
+
+-- The least wrong place so far, with square number n, at place p, looked at: by square n is due at p, else p at n. So, with a block's squares.
+abbrev pub least-one : (by-square : Bool) → List ℕ → (least n p : ℕ) → ℕ
+least-one by-square t least n p =
+    cond (eqb (getD t (cond by-square p n) 0) (cond by-square n p)) least (min least (wrong-at (cond by-square p n) (cond by-square n p)))
+
+abbrev pub checked : (by-square : Bool) (w : ℕ) → List ℕ → Block → (at least : ℕ) → ℕ
+checked by-square w t k at least = over-block (least-one by-square t) least w k at
+
+-- A block that lies within the area of the table, with room for its squares' numbers from `at` on.
+pub record Fills (w h : ℕ) (t : List ℕ) (k : Block) (at : ℕ) : Type 0 where
+  pub w-limit : w ≤ 65535
+  pub h-limit : h ≤ 65535
+  pub inside : Inside w h k
+  pub size : length t ≡ w * h
+  pub room : at + k .a * k .b ≤ w * h
+
+-- A block with run and side exchanged: where it is straight, the same squares in the same order.
+unfoldable pub exchanged : Block → Block
+exchanged k = record { start = k .start; run = k .side; a = k .b; side = k .run; b = k .a }
+
+-- The square that lies v along a block's side, and the one a step along the run from it.
+abbrev pub near : Block → ℕ → Square
+near k v = moved (k .side) v (k .start)
+
+abbrev pub far : Block → ℕ → Square
+far k v = moved (k .side) v (moved (k .run) 1 (k .start))

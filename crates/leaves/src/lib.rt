@@ -1,0 +1,160 @@
+// The blocks that a walk over a table does not cut: straight ones, and those 2 wide and 2 or 3 deep, to which most squares of a large area belong.
+use division::Placed;
+use terms::Area;
+ghost use mathlib.Core.Bool.{cond};
+ghost use mathlib.Core.Path.{_≡_};
+ghost use Prim.Native.Nat.{_+_, _≤_, _<_};
+ghost use lib.ListN.{length};
+ghost use Rattle.division.specs.declared.Choice.the-variants.{StraightRun};
+ghost use Rattle.division.specs.Division.{square, choice, blocks};
+ghost use Rattle.division.specs.Division.Inside.{Inside};
+ghost use Rattle.division.specs.Forms.{block};
+ghost use Rattle.leaves.specs.Walk.{place, entered, walked, near, far, Fills, least-one, checked};
+
+// A square's place in a table by square.
+fn place_of(along: u32, across: u32, turned: bool, w: u32) -> u32
+    requires { ⌜ place w (cond turned (square across along) (square along across)) < 4294967296 ⌝ }
+    ensures { λ r. ⌜ r ≡ place w (cond turned (square across along) (square along across)) ⌝ }
+{
+    division::either(turned, along, across) * w + division::either(turned, across, along)
+}
+
+// Enters square number n, which has the place p.
+fn enter(table: &mut [u32], n: u32, p: u32, by_square: bool)
+    requires { ⌜ (n < length (now table)) × (p < length (now table)) ⌝ }
+    ensures { λ r. ⌜ now (table .exit) ≡ entered «by_square» (now (table .entry)) n p ⌝ }
+{
+    let i = division::either(by_square, p, n) as usize;
+    table[i] = division::either(by_square, n, p);
+}
+
+// The squares of a straight block, which follow in its run.
+pub fn fill_run(table: &mut [u32], k: Placed, area: Area, at: u32, by_square: bool) -> u64
+    requires { ⌜ Fills (area .w) (area .h) (now table) (block k) at × (choice (k .a) (k .b) ≡ StraightRun) ⌝ }
+    ensures { λ r. ⌜ (now (table .exit) ≡ walked «by_square» (area .w) (now (table .entry)) (block k) at) × (r ≡ length (blocks (block k))) ⌝ }
+{
+    let w = area.w;
+    for i in 0..k.a {
+        let p = place_of(division::stepped(k.along, i, k.back), k.across, k.turned, w);
+        enter(table, at + i, p, by_square);
+    }
+    1
+}
+
+// Enters two squares, numbered on from n.
+fn enter_two(table: &mut [u32], n: u32, p: u32, q: u32, by_square: bool)
+    requires { ⌜ (n + 1 < 4294967296) × (n + 1 < length (now table)) × (p < length (now table)) × (q < length (now table)) ⌝ }
+    ensures { λ r. ⌜ now (table .exit) ≡ entered «by_square» (entered «by_square» (now (table .entry)) n p) (n + 1) q ⌝ }
+{
+    enter(table, n, p, by_square);
+    enter(table, n + 1, q, by_square);
+}
+
+// The places of two squares of a block 2 wide, side by side: one on its start's line, one a step along its run.
+struct Rung {
+    near: u32,
+    far: u32,
+}
+
+// The two that lie v along its side.
+fn rung_at(k: Placed, v: u32, area: Area) -> Rung
+    requires { ⌜ Inside (area .w) (area .h) (block k) × (area .w ≤ 65535) × (area .h ≤ 65535) × (k .a ≡ 2) × (v < k .b) ⌝ }
+    ensures { λ r. ⌜ (r .near ≡ place (area .w) (near (block k) v)) × (r .far ≡ place (area .w) (far (block k) v)) ⌝ }
+{
+    let w = area.w;
+    let beyond = division::stepped(k.along, 1, k.back);
+    let up = division::stepped(k.across, v, k.back);
+    Rung {
+        near: place_of(k.along, up, k.turned, w),
+        far: place_of(beyond, up, k.turned, w),
+    }
+}
+
+// A block 2 wide and 2 or 3 deep, at once, up its side and down again: most of a large area's squares lie in one.
+pub fn fill_leaf(table: &mut [u32], k: Placed, area: Area, at: u32, by_square: bool) -> u64
+    requires { ⌜ Fills (area .w) (area .h) (now table) (block k) at × (k .a ≡ 2) × (2 ≤ k .b) × (k .b ≤ 3) ⌝ }
+    ensures { λ r. ⌜ (now (table .exit) ≡ walked «by_square» (area .w) (now (table .entry)) (block k) at) × (r ≡ length (blocks (block k))) ⌝ }
+{
+    let deep = k.b;
+    let low = rung_at(k, 0, area);
+    let middle = rung_at(k, 1, area);
+    enter_two(table, at, low.near, middle.near, by_square);
+    if deep == 2 {
+        enter_two(table, at + 2, middle.far, low.far, by_square);
+        return 4;
+    }
+    let high = rung_at(k, 2, area);
+    enter_two(table, at + 2, high.near, high.far, by_square);
+    enter_two(table, at + 4, middle.far, low.far, by_square);
+    4
+}
+
+// The least wrong place so far, with square number n, which has the place p, looked at.
+fn compare(table: &[u32], n: u32, p: u32, by_square: bool, least: u64) -> u64
+    requires { ⌜ (n < length (now table)) × (p < length (now table)) ⌝ }
+    ensures { λ r. ⌜ r ≡ least-one «by_square» (now (table .entry)) least n p ⌝ }
+{
+    let place = division::either(by_square, p, n);
+    let due = division::either(by_square, n, p);
+    let i = place as usize;
+    if table[i] == due {
+        return least;
+    }
+    let wrong = place as u64 * 4294967296 + due as u64;
+    if wrong < least {
+        return wrong;
+    }
+    least
+}
+
+// The squares of a straight block, which follow in its run.
+pub fn check_run(table: &[u32], k: Placed, area: Area, at: u32, by_square: bool, so_far: u64) -> u64
+    requires { ⌜ Fills (area .w) (area .h) (now table) (block k) at × (choice (k .a) (k .b) ≡ StraightRun) ⌝ }
+    ensures { λ r. ⌜ r ≡ checked «by_square» (area .w) (now (table .entry)) (block k) at «so_far» ⌝ }
+{
+    let w = area.w;
+    let mut least = so_far;
+    for i in 0..k.a {
+        let p = place_of(division::stepped(k.along, i, k.back), k.across, k.turned, w);
+        least = compare(table, at + i, p, by_square, least);
+    }
+    least
+}
+
+// Looks at two squares, numbered on from n.
+fn compare_two(table: &[u32], n: u32, p: u32, q: u32, by_square: bool, least: u64) -> u64
+    requires { ⌜ (n + 1 < 4294967296) × (n + 1 < length (now table)) × (p < length (now table)) × (q < length (now table)) ⌝ }
+    ensures { λ r. ⌜ r ≡ least-one «by_square» (now (table .entry)) (least-one «by_square» (now (table .entry)) least n p) (n + 1) q ⌝ }
+{
+    compare(
+        table,
+        n + 1,
+        q,
+        by_square,
+        compare(table, n, p, by_square, least),
+    )
+}
+
+// A block 2 wide and 2 or 3 deep, at once.
+pub fn check_leaf(
+    table: &[u32],
+    k: Placed,
+    area: Area,
+    at: u32,
+    by_square: bool,
+    so_far: u64,
+) -> u64
+    requires { ⌜ Fills (area .w) (area .h) (now table) (block k) at × (k .a ≡ 2) × (2 ≤ k .b) × (k .b ≤ 3) ⌝ }
+    ensures { λ r. ⌜ r ≡ checked «by_square» (area .w) (now (table .entry)) (block k) at «so_far» ⌝ }
+{
+    let deep = k.b;
+    let low = rung_at(k, 0, area);
+    let middle = rung_at(k, 1, area);
+    let first = compare_two(table, at, low.near, middle.near, by_square, so_far);
+    if deep == 2 {
+        return compare_two(table, at + 2, middle.far, low.far, by_square, first);
+    }
+    let high = rung_at(k, 2, area);
+    let second = compare_two(table, at + 2, high.near, high.far, by_square, first);
+    compare_two(table, at + 4, middle.far, low.far, by_square, second)
+}

@@ -1,0 +1,297 @@
+-- `tables::check_block`, `check_choice`, `check_long_cut` and `check_u_cut` meet their contracts, by the laws of `Parts`: the parts' looks in order are the block's.
+-- The measure is three times the block's area, one more for `check_choice` and two for `check_block`, which hand the block itself on.
+use mathlib.Core.Path.{refl, sym, ap, ap₂, subst, _∙_}
+use Prim.Native.Nat.{ℕ, _+_, _-_, _*_, _/_, _<_}
+use native.Mathlib.Omega.{arith}
+use Rattle.division.specs.Forms.{block}
+use Rattle.division.proofs.Walks.{a-limit, b-limit}
+use Rattle.leaves.specs.Walk.{over-block, least-one}
+use Rattle.leaves.proofs.Entries.{largest}
+use Rattle.tables.proofs.Parts.{first-call, second-call, second-number, long-over, a-call, b-call, c-call, u-deep, u-numbers, u-over, side-call, side-over}
+use borrow.Fn.Kinds.{In}
+use borrow.Fn.PlainCycle.{Measures, is, falls, and}
+use Rattle.tables.proofs.check_block.Reads as check-block
+use Rattle.tables.proofs.check_block.Kinds as check-block-kinds
+use Rattle.tables.proofs.+check_block+check_choice+check_long_cut+check_u_cut.Lts-check_block as check-block-lts
+use Rattle.tables.proofs.check_choice.Reads as check-choice
+use Rattle.tables.proofs.check_choice.Kinds as check-choice-kinds
+use Rattle.tables.proofs.+check_block+check_choice+check_long_cut+check_u_cut.Lts-check_choice as check-choice-lts
+use Rattle.tables.proofs.check_long_cut.Reads as check-long-cut
+use Rattle.tables.proofs.check_long_cut.Kinds as check-long-cut-kinds
+use Rattle.tables.proofs.+check_block+check_choice+check_long_cut+check_u_cut.Lts-check_long_cut as check-long-cut-lts
+use Rattle.tables.proofs.check_u_cut.Reads as check-u-cut
+use Rattle.tables.proofs.check_u_cut.Kinds as check-u-cut-kinds
+use Rattle.tables.proofs.+check_block+check_choice+check_long_cut+check_u_cut.Lts-check_u_cut as check-u-cut-lts
+use Rattle.division.proofs.choose.Reads as choose-reads
+use Rattle.division.proofs.even_half.Reads as even-half-reads
+use Rattle.division.proofs.long_part.Reads as long-part-reads
+use Rattle.division.proofs.part_a.Reads as part-a-reads
+use Rattle.division.proofs.part_b.Reads as part-b-reads
+use Rattle.division.proofs.part_c.Reads as part-c-reads
+use Rattle.leaves.proofs.check_leaf.Reads as check-leaf-reads
+use Rattle.leaves.proofs.check_run.Reads as check-run-reads
+use Rattle.tables.proofs.exchanged_block.Reads as exchanged-block-reads
+use Rattle.tables.proofs.+check_block+check_choice+check_long_cut+check_u_cut.{statement}
+use Rattle.tables.proofs.+check_block+check_choice+check_long_cut+check_u_cut.Tie.{close}
+
+abbrev μ-check-block : Measures 1 check-block-kinds.ps ℕ
+μ-check-block κs a = 3 * (a .1 .0 .a * a .1 .0 .b) + 2
+
+abbrev μ-check-choice : Measures 1 check-choice-kinds.ps ℕ
+μ-check-choice κs a = 3 * (a .1 .1 .1 .1 .1 .0 * a .1 .1 .1 .1 .1 .1 .0) + 1
+
+abbrev μ-check-long-cut : Measures 1 check-long-cut-kinds.ps ℕ
+μ-check-long-cut κs a = 3 * (a .1 .0 .a * a .1 .0 .b)
+
+abbrev μ-check-u-cut : Measures 1 check-u-cut-kinds.ps ℕ
+μ-check-u-cut κs a = 3 * (a .1 .0 .a * a .1 .0 .b)
+
+abbrev check-block-at : ℕ → In 1 check-block-kinds.ps
+check-block-at t =
+    and 1 check-block-kinds.ps (is 1 check-block-kinds.ps μ-check-block t) check-block.Pre
+
+abbrev check-block-below : ℕ → In 1 check-block-kinds.ps
+check-block-below t =
+    and 1 check-block-kinds.ps (falls 1 check-block-kinds.ps _<_ μ-check-block t) check-block.Pre
+
+abbrev check-choice-at : ℕ → In 1 check-choice-kinds.ps
+check-choice-at t =
+    and 1 check-choice-kinds.ps (is 1 check-choice-kinds.ps μ-check-choice t) check-choice.Pre
+
+abbrev check-choice-below : ℕ → In 1 check-choice-kinds.ps
+check-choice-below t =
+    and
+    1
+    check-choice-kinds.ps
+    (falls 1 check-choice-kinds.ps _<_ μ-check-choice t)
+    check-choice.Pre
+
+abbrev check-long-cut-at : ℕ → In 1 check-long-cut-kinds.ps
+check-long-cut-at t =
+    and
+    1
+    check-long-cut-kinds.ps
+    (is 1 check-long-cut-kinds.ps μ-check-long-cut t)
+    check-long-cut.Pre
+
+abbrev check-long-cut-below : ℕ → In 1 check-long-cut-kinds.ps
+check-long-cut-below t =
+    and
+    1
+    check-long-cut-kinds.ps
+    (falls 1 check-long-cut-kinds.ps _<_ μ-check-long-cut t)
+    check-long-cut.Pre
+
+abbrev check-u-cut-at : ℕ → In 1 check-u-cut-kinds.ps
+check-u-cut-at t =
+    and 1 check-u-cut-kinds.ps (is 1 check-u-cut-kinds.ps μ-check-u-cut t) check-u-cut.Pre
+
+abbrev check-u-cut-below : ℕ → In 1 check-u-cut-kinds.ps
+check-u-cut-below t =
+    and 1 check-u-cut-kinds.ps (falls 1 check-u-cut-kinds.ps _<_ μ-check-u-cut t) check-u-cut.Pre
+
+-- what is asked and learnt at each call of `check-block`
+abbrev check-block-calls : ℕ → check-block-lts.Claims
+check-block-calls t = (check-choice-below t, check-choice.Post)
+
+-- what is asked and learnt at each call of `check-choice`
+abbrev check-choice-calls : ℕ → check-choice-lts.Claims
+check-choice-calls t = (choose-reads.Asked, choose-reads.Learnt, check-run-reads.Asked, check-run-reads.Learnt, exchanged-block-reads.Asked, exchanged-block-reads.Learnt, check-long-cut-below t, check-long-cut.Post, check-leaf-reads.Asked, check-leaf-reads.Learnt, check-u-cut-below t, check-u-cut.Post)
+
+-- what is asked and learnt at each call of `check-long-cut`
+abbrev check-long-cut-calls : ℕ → check-long-cut-lts.Claims
+check-long-cut-calls t = (even-half-reads.Asked, even-half-reads.Learnt, long-part-reads.Asked, long-part-reads.Learnt, check-block-below t, check-block.Post)
+
+-- what is asked and learnt at each call of `check-u-cut`
+abbrev check-u-cut-calls : ℕ → check-u-cut-lts.Claims
+check-u-cut-calls t = (even-half-reads.Asked, even-half-reads.Learnt, part-a-reads.Asked, part-a-reads.Learnt, check-block-below t, check-block.Post, part-b-reads.Asked, part-b-reads.Learnt, part-c-reads.Asked, part-c-reads.Learnt)
+
+check-block-check-choice-requires : (t : ℕ) → check-block-lts.Need-check-choice-requires (check-block-calls t) (check-block-at t) check-block.Post
+check-block-check-choice-requires t c κs = (let m = c .before .pre .0 in omega arith, c .before .pre .1)
+
+check-block-returns : (t : ℕ) → check-block-lts.Need-returns (check-block-calls t) (check-block-at t) check-block.Post
+check-block-returns t c = c .check-choice .ensures
+
+check-choice-choose-requires : (t : ℕ) → check-choice-lts.Need-choose-requires (check-choice-calls t) (check-choice-at t) check-choice.Post
+check-choice-choose-requires t c κs = (a-limit _ (largest (c .before .pre .1)), b-limit _ (largest (c .before .pre .1)))
+
+check-choice-enum-told : (t : ℕ) → check-choice-lts.Need-enum-told (check-choice-calls t) (check-choice-at t) check-choice.Post
+check-choice-enum-told t c = c .match .keys1
+
+check-choice-check-run-requires : (t : ℕ) → check-choice-lts.Need-check-run-requires (check-choice-calls t) (check-choice-at t) check-choice.Post
+check-choice-check-run-requires t c κs = (c .before .before .before .before .pre .1, (sym (c .before .before .choose .ensures) ∙ c .enum-told .given .1))
+
+check-choice-enum-told-2 : (t : ℕ) → check-choice-lts.Need-enum-told-2 (check-choice-calls t) (check-choice-at t) check-choice.Post
+check-choice-enum-told-2 t c = c .match .keys2
+
+check-choice-exchanged-block-requires : (t : ℕ) → check-choice-lts.Need-exchanged-block-requires (check-choice-calls t) (check-choice-at t) check-choice.Post
+check-choice-exchanged-block-requires t c κs = tt
+
+check-choice-check-run-requires-2 : (t : ℕ) → check-choice-lts.Need-check-run-requires-2 (check-choice-calls t) (check-choice-at t) check-choice.Post
+check-choice-check-run-requires-2 t c κs = side-call (c .before .before .before .before .before .pre .1) (sym (c .before .before .before .choose .ensures) ∙ c .before .enum-told2 .given .1) (c .exchanged-block .result) (c .exchanged-block .ensures)
+
+check-choice-enum-told-3 : (t : ℕ) → check-choice-lts.Need-enum-told-3 (check-choice-calls t) (check-choice-at t) check-choice.Post
+check-choice-enum-told-3 t c = c .match .keys3
+
+check-choice-check-long-cut-requires : (t : ℕ) → check-choice-lts.Need-check-long-cut-requires (check-choice-calls t) (check-choice-at t) check-choice.Post
+check-choice-check-long-cut-requires t c κs = (let m = c .before .before .before .before .pre .0 in omega arith, (c .before .before .before .before .pre .1, (sym (c .before .before .choose .ensures) ∙ c .enum-told3 .given .1)))
+
+check-choice-enum-told-4 : (t : ℕ) → check-choice-lts.Need-enum-told-4 (check-choice-calls t) (check-choice-at t) check-choice.Post
+check-choice-enum-told-4 t c = c .match .keys4
+
+check-choice-check-leaf-requires : (t : ℕ) → check-choice-lts.Need-check-leaf-requires (check-choice-calls t) (check-choice-at t) check-choice.Post
+check-choice-check-leaf-requires t c κs = (c .before .before .before .before .before .before .pre .1, c .before .if1 .taken, u-deep (c .before .before .before .before .before .before .pre .1) (sym (c .before .before .before .before .choose .ensures) ∙ c .before .before .enum-told4 .given .1), c .if2 .taken)
+
+check-choice-returns : (t : ℕ) → check-choice-lts.Need-returns (check-choice-calls t) (check-choice-at t) check-choice.Post
+check-choice-returns t c = c .check-leaf .ensures
+
+check-choice-check-u-cut-requires : (t : ℕ) → check-choice-lts.Need-check-u-cut-requires (check-choice-calls t) (check-choice-at t) check-choice.Post
+check-choice-check-u-cut-requires t c κs = (let m = c .before .before .before .before .before .pre .0 in omega arith, (c .before .before .before .before .before .pre .1, (sym (c .before .before .before .choose .ensures) ∙ c .before .enum-told4 .given .1)))
+
+check-choice-returns-2 : (t : ℕ) → check-choice-lts.Need-returns-2 (check-choice-calls t) (check-choice-at t) check-choice.Post
+check-choice-returns-2 t c = c .check-run .ensures
+
+check-choice-returns-3 : (t : ℕ) → check-choice-lts.Need-returns-3 (check-choice-calls t) (check-choice-at t) check-choice.Post
+check-choice-returns-3 t c = c .check-run2 .ensures ∙ side-over (c .before .before .before .before .before .before .pre .1) (sym (c .before .before .before .before .choose .ensures) ∙ c .before .before .enum-told2 .given .1) (least-one (c .before .before .before .before .before .before .args .by-square) (c .before .before .before .before .before .before .args .table .now)) (c .before .before .before .before .before .before .args .so-far) (c .before .exchanged-block .result) (c .before .exchanged-block .ensures)
+
+check-choice-returns-4 : (t : ℕ) → check-choice-lts.Need-returns-4 (check-choice-calls t) (check-choice-at t) check-choice.Post
+check-choice-returns-4 t c = c .check-long-cut .ensures
+
+check-choice-returns-5 : (t : ℕ) → check-choice-lts.Need-returns-5 (check-choice-calls t) (check-choice-at t) check-choice.Post
+check-choice-returns-5 t c = c .check-u-cut .ensures
+
+check-long-cut-even-half-requires : (t : ℕ) → check-long-cut-lts.Need-even-half-requires (check-long-cut-calls t) (check-long-cut-at t) check-long-cut.Post
+check-long-cut-even-half-requires t c κs = tt
+
+check-long-cut-mul-to-second : (t : ℕ) → check-long-cut-lts.Need-mul-to-second (check-long-cut-calls t) (check-long-cut-at t) check-long-cut.Post
+check-long-cut-mul-to-second t c = record { fits = second-number (c .before .before .before .pre .1 .0) (c .before .before .before .pre .1 .1) (c .before .even-half .ensures) .0 }
+
+check-long-cut-add-to-second : (t : ℕ) → check-long-cut-lts.Need-add-to-second (check-long-cut-calls t) (check-long-cut-at t) check-long-cut.Post
+check-long-cut-add-to-second t c = record { fits = second-number (c .before .before .before .pre .1 .0) (c .before .before .before .pre .1 .1) (c .before .even-half .ensures) .1 }
+
+check-long-cut-long-part-requires : (t : ℕ) → check-long-cut-lts.Need-long-part-requires (check-long-cut-calls t) (check-long-cut-at t) check-long-cut.Post
+check-long-cut-long-part-requires t c κs = (largest (c .before .before .before .pre .1 .0), c .before .before .before .pre .1 .1)
+
+check-long-cut-check-block-requires : (t : ℕ) → check-long-cut-lts.Need-check-block-requires (check-long-cut-calls t) (check-long-cut-at t) check-long-cut.Post
+check-long-cut-check-block-requires t c κs = let next = first-call (c .before .before .before .before .pre .1 .0) (c .before .before .before .before .pre .1 .1) (c .before .before .even-half .ensures) (c .long-part .result) (c .long-part .ensures) in
+    (subst (λ (m : ℕ). 3 * (c .long-part .result .a * c .long-part .result .b) + 2 < m) (c .before .before .before .before .pre .0) (next .0), next .1)
+
+check-long-cut-long-part-requires-2 : (t : ℕ) → check-long-cut-lts.Need-long-part-requires-2 (check-long-cut-calls t) (check-long-cut-at t) check-long-cut.Post
+check-long-cut-long-part-requires-2 t c κs = (largest (c .before .before .before .before .before .pre .1 .0), c .before .before .before .before .before .pre .1 .1)
+
+check-long-cut-check-block-requires-2 : (t : ℕ) → check-long-cut-lts.Need-check-block-requires-2 (check-long-cut-calls t) (check-long-cut-at t) check-long-cut.Post
+check-long-cut-check-block-requires-2 t c κs = let next = second-call (c .before .before .before .before .before .before .pre .1 .0) (c .before .before .before .before .before .before .pre .1 .1) (c .before .before .before .before .even-half .ensures) (c .before .before .before .before .before .before .args .table .now) refl (c .long-part2 .result) (c .long-part2 .ensures) in
+    (subst (λ (m : ℕ). 3 * (c .long-part2 .result .a * c .long-part2 .result .b) + 2 < m) (c .before .before .before .before .before .before .pre .0) (next .0), next .1)
+
+check-long-cut-returns : (t : ℕ) → check-long-cut-lts.Need-returns (check-long-cut-calls t) (check-long-cut-at t) check-long-cut.Post
+check-long-cut-returns t c = let look = least-one (c .before .before .before .before .before .before .before .args .by-square) (c .before .before .before .before .before .before .before .args .table .now) in
+    let w = c .before .before .before .before .before .before .before .args .area .w in
+    let at = c .before .before .before .before .before .before .before .args .at in
+    c .check-block2 .ensures
+    ∙ ap₂ (λ l j. over-block look l w j (at + c .before .before .before .before .before .even-half .result * c .before .before .before .before .before .before .before .args .k .b)) (c .before .before .check-block .ensures ∙ ap (λ j. over-block look (c .before .before .before .before .before .before .before .args .so-far) w j at) (c .before .before .before .long-part .ensures)) (c .before .long-part2 .ensures)
+    ∙ long-over (c .before .before .before .before .before .before .before .pre .1 .0) (c .before .before .before .before .before .before .before .pre .1 .1) (c .before .before .before .before .before .even-half .ensures) look (c .before .before .before .before .before .before .before .args .so-far)
+
+check-u-cut-even-half-requires : (t : ℕ) → check-u-cut-lts.Need-even-half-requires (check-u-cut-calls t) (check-u-cut-at t) check-u-cut.Post
+check-u-cut-even-half-requires t c κs = tt
+
+check-u-cut-mul-to-b : (t : ℕ) → check-u-cut-lts.Need-mul-to-b (check-u-cut-calls t) (check-u-cut-at t) check-u-cut.Post
+check-u-cut-mul-to-b t c = record { fits = u-numbers (c .before .before .before .pre .1 .0) (c .before .before .before .pre .1 .1) (c .before .even-half .ensures) .in-a }
+
+check-u-cut-add-to-b : (t : ℕ) → check-u-cut-lts.Need-add-to-b (check-u-cut-calls t) (check-u-cut-at t) check-u-cut.Post
+check-u-cut-add-to-b t c = record { fits = u-numbers (c .before .before .before .pre .1 .0) (c .before .before .before .pre .1 .1) (c .before .even-half .ensures) .to-b }
+
+check-u-cut-sub-to-c : (t : ℕ) → check-u-cut-lts.Need-sub-to-c (check-u-cut-calls t) (check-u-cut-at t) check-u-cut.Post
+check-u-cut-sub-to-c t c = u-numbers (c .before .before .before .before .pre .1 .0) (c .before .before .before .before .pre .1 .1) (c .before .before .even-half .ensures) .half
+
+check-u-cut-mul-to-c : (t : ℕ) → check-u-cut-lts.Need-mul-to-c (check-u-cut-calls t) (check-u-cut-at t) check-u-cut.Post
+check-u-cut-mul-to-c t c = record { fits = u-numbers (c .before .before .before .before .before .pre .1 .0) (c .before .before .before .before .before .pre .1 .1) (c .before .before .before .even-half .ensures) .in-b }
+
+check-u-cut-add-to-c : (t : ℕ) → check-u-cut-lts.Need-add-to-c (check-u-cut-calls t) (check-u-cut-at t) check-u-cut.Post
+check-u-cut-add-to-c t c = record { fits = u-numbers (c .before .before .before .before .before .pre .1 .0) (c .before .before .before .before .before .pre .1 .1) (c .before .before .before .even-half .ensures) .to-c }
+
+check-u-cut-part-a-requires : (t : ℕ) → check-u-cut-lts.Need-part-a-requires (check-u-cut-calls t) (check-u-cut-at t) check-u-cut.Post
+check-u-cut-part-a-requires t c κs = (largest (c .before .before .before .before .before .pre .1 .0), c .before .before .before .before .before .pre .1 .1)
+
+check-u-cut-check-block-requires : (t : ℕ) → check-u-cut-lts.Need-check-block-requires (check-u-cut-calls t) (check-u-cut-at t) check-u-cut.Post
+check-u-cut-check-block-requires t c κs = let next = a-call (c .before .before .before .before .before .before .pre .1 .0) (c .before .before .before .before .before .before .pre .1 .1) (c .before .before .before .before .even-half .ensures) (c .part-a .result) (c .part-a .ensures) in
+    (subst (λ (m : ℕ). 3 * (c .part-a .result .a * c .part-a .result .b) + 2 < m) (c .before .before .before .before .before .before .pre .0) (next .0), next .1)
+
+check-u-cut-part-b-requires : (t : ℕ) → check-u-cut-lts.Need-part-b-requires (check-u-cut-calls t) (check-u-cut-at t) check-u-cut.Post
+check-u-cut-part-b-requires t c κs = (largest (c .before .before .before .before .before .before .before .pre .1 .0), c .before .before .before .before .before .before .before .pre .1 .1)
+
+check-u-cut-check-block-requires-2 : (t : ℕ) → check-u-cut-lts.Need-check-block-requires-2 (check-u-cut-calls t) (check-u-cut-at t) check-u-cut.Post
+check-u-cut-check-block-requires-2 t c κs = let next = b-call (c .before .before .before .before .before .before .before .before .pre .1 .0) (c .before .before .before .before .before .before .before .before .pre .1 .1) (c .before .before .before .before .before .before .even-half .ensures) (c .before .before .before .before .before .before .before .before .args .table .now) refl (c .part-b .result) (c .part-b .ensures) in
+    (subst (λ (m : ℕ). 3 * (c .part-b .result .a * c .part-b .result .b) + 2 < m) (c .before .before .before .before .before .before .before .before .pre .0) (next .0), next .1)
+
+check-u-cut-part-c-requires : (t : ℕ) → check-u-cut-lts.Need-part-c-requires (check-u-cut-calls t) (check-u-cut-at t) check-u-cut.Post
+check-u-cut-part-c-requires t c κs = (largest (c .before .before .before .before .before .before .before .before .before .pre .1 .0), c .before .before .before .before .before .before .before .before .before .pre .1 .1)
+
+check-u-cut-check-block-requires-3 : (t : ℕ) → check-u-cut-lts.Need-check-block-requires-3 (check-u-cut-calls t) (check-u-cut-at t) check-u-cut.Post
+check-u-cut-check-block-requires-3 t c κs = let next = c-call (c .before .before .before .before .before .before .before .before .before .before .pre .1 .0) (c .before .before .before .before .before .before .before .before .before .before .pre .1 .1) (c .before .before .before .before .before .before .before .before .even-half .ensures) (c .before .before .before .before .before .before .before .before .before .before .args .table .now) refl (c .part-c .result) (c .part-c .ensures) in
+    (subst (λ (m : ℕ). 3 * (c .part-c .result .a * c .part-c .result .b) + 2 < m) (c .before .before .before .before .before .before .before .before .before .before .pre .0) (next .0), next .1)
+
+check-u-cut-returns : (t : ℕ) → check-u-cut-lts.Need-returns (check-u-cut-calls t) (check-u-cut-at t) check-u-cut.Post
+check-u-cut-returns t c = let look = least-one (c .before .before .before .before .before .before .before .before .before .before .before .args .by-square) (c .before .before .before .before .before .before .before .before .before .before .before .args .table .now) in
+    let w = c .before .before .before .before .before .before .before .before .before .before .before .args .area .w in
+    let at = c .before .before .before .before .before .before .before .before .before .before .before .args .at in
+    let k = c .before .before .before .before .before .before .before .before .before .before .before .args .k in
+    let e = c .before .before .before .before .before .before .before .before .before .even-half .result in
+    c .check-block3 .ensures
+    ∙ ap₂ (λ l j. over-block look l w j (at + e * (k .a / 2) + k .a * (k .b - e)))
+    (c .before .before .check-block2 .ensures
+    ∙ ap₂ (λ l j. over-block look l w j (at + e * (k .a / 2))) (c .before .before .before .before .check-block .ensures ∙ ap (λ j. over-block look (c .before .before .before .before .before .before .before .before .before .before .before .args .so-far) w j at) (c .before .before .before .before .before .part-a .ensures)) (c .before .before .before .part-b .ensures)) (c .before .part-c .ensures)
+    ∙ u-over (c .before .before .before .before .before .before .before .before .before .before .before .pre .1 .0) (c .before .before .before .before .before .before .before .before .before .before .before .pre .1 .1) (c .before .before .before .before .before .before .before .before .before .even-half .ensures) look (c .before .before .before .before .before .before .before .before .before .before .before .args .so-far)
+
+pub +check-block+check-choice+check-long-cut+check-u-cut-spec : {M : Type 1} → statement M
++check-block+check-choice+check-long-cut+check-u-cut-spec =
+    close μ-check-block μ-check-choice μ-check-long-cut μ-check-u-cut (λ t. check-block-lts.spec (check-block-calls t)
+    (check-block-at t)
+    check-block.Post
+    (check-block-check-choice-requires t)
+    (check-block-returns t))
+    (λ t. check-choice-lts.spec (check-choice-calls t)
+    (check-choice-at t)
+    check-choice.Post
+    (check-choice-choose-requires t)
+    (check-choice-enum-told t)
+    (check-choice-check-run-requires t)
+    (check-choice-enum-told-2 t)
+    (check-choice-exchanged-block-requires t)
+    (check-choice-check-run-requires-2 t)
+    (check-choice-enum-told-3 t)
+    (check-choice-check-long-cut-requires t)
+    (check-choice-enum-told-4 t)
+    (check-choice-check-leaf-requires t)
+    (check-choice-returns t)
+    (check-choice-check-u-cut-requires t)
+    (check-choice-returns-2 t)
+    (check-choice-returns-3 t)
+    (check-choice-returns-4 t)
+    (check-choice-returns-5 t))
+    (λ t. check-long-cut-lts.spec (check-long-cut-calls t)
+    (check-long-cut-at t)
+    check-long-cut.Post
+    (check-long-cut-even-half-requires t)
+    (check-long-cut-mul-to-second t)
+    (check-long-cut-add-to-second t)
+    (check-long-cut-long-part-requires t)
+    (check-long-cut-check-block-requires t)
+    (check-long-cut-long-part-requires-2 t)
+    (check-long-cut-check-block-requires-2 t)
+    (check-long-cut-returns t))
+    λ t. check-u-cut-lts.spec (check-u-cut-calls t)
+    (check-u-cut-at t)
+    check-u-cut.Post
+    (check-u-cut-even-half-requires t)
+    (check-u-cut-mul-to-b t)
+    (check-u-cut-add-to-b t)
+    (check-u-cut-sub-to-c t)
+    (check-u-cut-mul-to-c t)
+    (check-u-cut-add-to-c t)
+    (check-u-cut-part-a-requires t)
+    (check-u-cut-check-block-requires t)
+    (check-u-cut-part-b-requires t)
+    (check-u-cut-check-block-requires-2 t)
+    (check-u-cut-part-c-requires t)
+    (check-u-cut-check-block-requires-3 t)
+    (check-u-cut-returns t)

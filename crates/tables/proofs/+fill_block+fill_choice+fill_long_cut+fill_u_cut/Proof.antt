@@ -1,0 +1,376 @@
+-- `tables::fill_block`, `fill_choice`, `fill_long_cut` and `fill_u_cut` meet their contracts, by the laws of `Parts`: the parts' entries in order are the block's.
+-- The measure is three times the block's area, one more for `fill_choice` and two for `fill_block`, which hand the block itself on.
+use mathlib.Core.Path.{sym, ap, ap₂, subst, _∙_}
+use Prim.Native.Nat.{ℕ, _+_, _-_, _*_, _/_, _<_}
+use native.Mathlib.Omega.{arith}
+use lib.ListN.{length}
+use Rattle.division.specs.Division.{blocks}
+use Rattle.division.specs.Forms.{block}
+use Rattle.division.proofs.Walks.{a-limit, b-limit}
+use Rattle.leaves.specs.Walk.{entered, walked}
+use Rattle.leaves.proofs.Entries.{largest}
+use Rattle.tables.proofs.Parts.{first-call, second-call, second-number, long-over, long-count, long-fits, a-call, b-call, c-call, u-deep, u-numbers, u-over, u-count, u-fits, side-call, side-over, side-count}
+use borrow.Fn.Kinds.{In}
+use borrow.Fn.PlainCycle.{Measures, is, falls, and}
+use Rattle.tables.proofs.fill_block.Reads as fill-block
+use Rattle.tables.proofs.fill_block.Kinds as fill-block-kinds
+use Rattle.tables.proofs.+fill_block+fill_choice+fill_long_cut+fill_u_cut.Lts-fill_block as fill-block-lts
+use Rattle.tables.proofs.fill_choice.Reads as fill-choice
+use Rattle.tables.proofs.fill_choice.Kinds as fill-choice-kinds
+use Rattle.tables.proofs.+fill_block+fill_choice+fill_long_cut+fill_u_cut.Lts-fill_choice as fill-choice-lts
+use Rattle.tables.proofs.fill_long_cut.Reads as fill-long-cut
+use Rattle.tables.proofs.fill_long_cut.Kinds as fill-long-cut-kinds
+use Rattle.tables.proofs.+fill_block+fill_choice+fill_long_cut+fill_u_cut.Lts-fill_long_cut as fill-long-cut-lts
+use Rattle.tables.proofs.fill_u_cut.Reads as fill-u-cut
+use Rattle.tables.proofs.fill_u_cut.Kinds as fill-u-cut-kinds
+use Rattle.tables.proofs.+fill_block+fill_choice+fill_long_cut+fill_u_cut.Lts-fill_u_cut as fill-u-cut-lts
+use Rattle.division.proofs.choose.Reads as choose-reads
+use Rattle.division.proofs.even_half.Reads as even-half-reads
+use Rattle.division.proofs.long_part.Reads as long-part-reads
+use Rattle.division.proofs.part_a.Reads as part-a-reads
+use Rattle.division.proofs.part_b.Reads as part-b-reads
+use Rattle.division.proofs.part_c.Reads as part-c-reads
+use Rattle.tables.proofs.exchanged_block.Reads as exchanged-block-reads
+use Rattle.leaves.proofs.fill_leaf.Reads as fill-leaf-reads
+use Rattle.leaves.proofs.fill_run.Reads as fill-run-reads
+use Rattle.tables.proofs.+fill_block+fill_choice+fill_long_cut+fill_u_cut.{statement}
+use Rattle.tables.proofs.+fill_block+fill_choice+fill_long_cut+fill_u_cut.Tie.{close}
+
+abbrev μ-fill-block : Measures 1 fill-block-kinds.ps ℕ
+μ-fill-block κs a = 3 * (a .1 .0 .a * a .1 .0 .b) + 2
+
+abbrev μ-fill-choice : Measures 1 fill-choice-kinds.ps ℕ
+μ-fill-choice κs a = 3 * (a .1 .1 .1 .1 .1 .0 * a .1 .1 .1 .1 .1 .1 .0) + 1
+
+abbrev μ-fill-long-cut : Measures 1 fill-long-cut-kinds.ps ℕ
+μ-fill-long-cut κs a = 3 * (a .1 .0 .a * a .1 .0 .b)
+
+abbrev μ-fill-u-cut : Measures 1 fill-u-cut-kinds.ps ℕ
+μ-fill-u-cut κs a = 3 * (a .1 .0 .a * a .1 .0 .b)
+
+abbrev fill-block-at : ℕ → In 1 fill-block-kinds.ps
+fill-block-at t =
+    and 1 fill-block-kinds.ps (is 1 fill-block-kinds.ps μ-fill-block t) fill-block.Pre
+
+abbrev fill-block-below : ℕ → In 1 fill-block-kinds.ps
+fill-block-below t =
+    and 1 fill-block-kinds.ps (falls 1 fill-block-kinds.ps _<_ μ-fill-block t) fill-block.Pre
+
+abbrev fill-choice-at : ℕ → In 1 fill-choice-kinds.ps
+fill-choice-at t =
+    and 1 fill-choice-kinds.ps (is 1 fill-choice-kinds.ps μ-fill-choice t) fill-choice.Pre
+
+abbrev fill-choice-below : ℕ → In 1 fill-choice-kinds.ps
+fill-choice-below t =
+    and 1 fill-choice-kinds.ps (falls 1 fill-choice-kinds.ps _<_ μ-fill-choice t) fill-choice.Pre
+
+abbrev fill-long-cut-at : ℕ → In 1 fill-long-cut-kinds.ps
+fill-long-cut-at t =
+    and 1 fill-long-cut-kinds.ps (is 1 fill-long-cut-kinds.ps μ-fill-long-cut t) fill-long-cut.Pre
+
+abbrev fill-long-cut-below : ℕ → In 1 fill-long-cut-kinds.ps
+fill-long-cut-below t =
+    and
+    1
+    fill-long-cut-kinds.ps
+    (falls 1 fill-long-cut-kinds.ps _<_ μ-fill-long-cut t)
+    fill-long-cut.Pre
+
+abbrev fill-u-cut-at : ℕ → In 1 fill-u-cut-kinds.ps
+fill-u-cut-at t =
+    and 1 fill-u-cut-kinds.ps (is 1 fill-u-cut-kinds.ps μ-fill-u-cut t) fill-u-cut.Pre
+
+abbrev fill-u-cut-below : ℕ → In 1 fill-u-cut-kinds.ps
+fill-u-cut-below t =
+    and 1 fill-u-cut-kinds.ps (falls 1 fill-u-cut-kinds.ps _<_ μ-fill-u-cut t) fill-u-cut.Pre
+
+-- what is asked and learnt at each call of `fill-block`
+abbrev fill-block-calls : ℕ → fill-block-lts.Claims
+fill-block-calls t = (fill-choice-below t, fill-choice.Post)
+
+-- what is asked and learnt at each call of `fill-choice`
+abbrev fill-choice-calls : ℕ → fill-choice-lts.Claims
+fill-choice-calls t = (choose-reads.Asked, choose-reads.Learnt, fill-run-reads.Asked, fill-run-reads.Learnt, exchanged-block-reads.Asked, exchanged-block-reads.Learnt, fill-long-cut-below t, fill-long-cut.Post, fill-leaf-reads.Asked, fill-leaf-reads.Learnt, fill-u-cut-below t, fill-u-cut.Post)
+
+-- what is asked and learnt at each call of `fill-long-cut`
+abbrev fill-long-cut-calls : ℕ → fill-long-cut-lts.Claims
+fill-long-cut-calls t = (even-half-reads.Asked, even-half-reads.Learnt, long-part-reads.Asked, long-part-reads.Learnt, fill-block-below t, fill-block.Post)
+
+-- what is asked and learnt at each call of `fill-u-cut`
+abbrev fill-u-cut-calls : ℕ → fill-u-cut-lts.Claims
+fill-u-cut-calls t = (even-half-reads.Asked, even-half-reads.Learnt, part-a-reads.Asked, part-a-reads.Learnt, fill-block-below t, fill-block.Post, part-b-reads.Asked, part-b-reads.Learnt, part-c-reads.Asked, part-c-reads.Learnt)
+
+fill-block-fill-choice-requires : (t : ℕ) → fill-block-lts.Need-fill-choice-requires (fill-block-calls t) (fill-block-at t) fill-block.Post
+fill-block-fill-choice-requires t c κs = (let m = c .before .before .pre .0 in omega arith, c .before .before .pre .1)
+
+fill-block-same-length : (t : ℕ) → fill-block-lts.Need-same-length (fill-block-calls t) (fill-block-at t) fill-block.Post
+fill-block-same-length t c = c .before .before .fill-choice .kept .0
+
+fill-block-returns :
+    (t : ℕ) →
+    fill-block-lts.Need-returns
+    (fill-block-calls t)
+    (fill-block-at t)
+    fill-block.Post
+fill-block-returns t c = c .before .before .fill-choice .ensures
+
+fill-choice-choose-requires : (t : ℕ) → fill-choice-lts.Need-choose-requires (fill-choice-calls t) (fill-choice-at t) fill-choice.Post
+fill-choice-choose-requires t c κs = (a-limit _ (largest (c .before .pre .1)), b-limit _ (largest (c .before .pre .1)))
+
+fill-choice-enum-told : (t : ℕ) → fill-choice-lts.Need-enum-told (fill-choice-calls t) (fill-choice-at t) fill-choice.Post
+fill-choice-enum-told t c = c .match .keys1
+
+fill-choice-fill-run-requires : (t : ℕ) → fill-choice-lts.Need-fill-run-requires (fill-choice-calls t) (fill-choice-at t) fill-choice.Post
+fill-choice-fill-run-requires t c κs = (c .before .before .before .before .before .pre .1, (sym (c .before .before .before .choose .ensures) ∙ c .before .enum-told .given .1))
+
+fill-choice-enum-told-2 : (t : ℕ) → fill-choice-lts.Need-enum-told-2 (fill-choice-calls t) (fill-choice-at t) fill-choice.Post
+fill-choice-enum-told-2 t c = c .match .keys2
+
+fill-choice-exchanged-block-requires : (t : ℕ) → fill-choice-lts.Need-exchanged-block-requires (fill-choice-calls t) (fill-choice-at t) fill-choice.Post
+fill-choice-exchanged-block-requires t c κs = tt
+
+fill-choice-fill-run-requires-2 : (t : ℕ) → fill-choice-lts.Need-fill-run-requires-2 (fill-choice-calls t) (fill-choice-at t) fill-choice.Post
+fill-choice-fill-run-requires-2 t c κs = side-call (c .before .before .before .before .before .before .pre .1) (sym (c .before .before .before .before .choose .ensures) ∙ c .before .before .enum-told2 .given .1) (c .exchanged-block .result) (c .exchanged-block .ensures)
+
+fill-choice-enum-told-3 : (t : ℕ) → fill-choice-lts.Need-enum-told-3 (fill-choice-calls t) (fill-choice-at t) fill-choice.Post
+fill-choice-enum-told-3 t c = c .match .keys3
+
+fill-choice-fill-long-cut-requires : (t : ℕ) → fill-choice-lts.Need-fill-long-cut-requires (fill-choice-calls t) (fill-choice-at t) fill-choice.Post
+fill-choice-fill-long-cut-requires t c κs = (let m = c .before .before .before .before .before .pre .0 in omega arith, (c .before .before .before .before .before .pre .1, (sym (c .before .before .before .choose .ensures) ∙ c .before .enum-told3 .given .1)))
+
+fill-choice-enum-told-4 : (t : ℕ) → fill-choice-lts.Need-enum-told-4 (fill-choice-calls t) (fill-choice-at t) fill-choice.Post
+fill-choice-enum-told-4 t c = c .match .keys4
+
+fill-choice-fill-leaf-requires : (t : ℕ) → fill-choice-lts.Need-fill-leaf-requires (fill-choice-calls t) (fill-choice-at t) fill-choice.Post
+fill-choice-fill-leaf-requires t c κs = (c .before .before .before .before .before .before .before .pre .1, c .before .before .if1 .taken, u-deep (c .before .before .before .before .before .before .before .pre .1) (sym (c .before .before .before .before .before .choose .ensures) ∙ c .before .before .before .enum-told4 .given .1), c .before .if2 .taken)
+
+fill-choice-same-length : (t : ℕ) → fill-choice-lts.Need-same-length (fill-choice-calls t) (fill-choice-at t) fill-choice.Post
+fill-choice-same-length t c = c .before .before .fill-leaf .kept .0
+
+fill-choice-returns : (t : ℕ) → fill-choice-lts.Need-returns (fill-choice-calls t) (fill-choice-at t) fill-choice.Post
+fill-choice-returns t c = c .before .before .fill-leaf .ensures
+
+fill-choice-fill-u-cut-requires : (t : ℕ) → fill-choice-lts.Need-fill-u-cut-requires (fill-choice-calls t) (fill-choice-at t) fill-choice.Post
+fill-choice-fill-u-cut-requires t c κs = (let m = c .before .before .before .before .before .before .pre .0 in omega arith, (c .before .before .before .before .before .before .pre .1, (sym (c .before .before .before .before .choose .ensures) ∙ c .before .before .enum-told4 .given .1)))
+
+fill-choice-same-length-2 : (t : ℕ) → fill-choice-lts.Need-same-length-2 (fill-choice-calls t) (fill-choice-at t) fill-choice.Post
+fill-choice-same-length-2 t c = c .before .before .fill-run .kept .0
+
+fill-choice-returns-2 : (t : ℕ) → fill-choice-lts.Need-returns-2 (fill-choice-calls t) (fill-choice-at t) fill-choice.Post
+fill-choice-returns-2 t c = c .before .before .fill-run .ensures
+
+fill-choice-same-length-3 : (t : ℕ) → fill-choice-lts.Need-same-length-3 (fill-choice-calls t) (fill-choice-at t) fill-choice.Post
+fill-choice-same-length-3 t c = c .before .before .fill-run2 .kept .0
+
+fill-choice-returns-3 : (t : ℕ) → fill-choice-lts.Need-returns-3 (fill-choice-calls t) (fill-choice-at t) fill-choice.Post
+fill-choice-returns-3 t c =
+    let f = c .before .before .before .before .before .before .before .before .before .pre .1 in
+    let is = sym (c .before .before .before .before .before .before .before .choose .ensures) ∙ c .before .before .before .before .before .enum-told2 .given .1 in
+    let r = c .before .before .before .exchanged-block in (
+      c .before .before .fill-run2 .ensures .0 ∙ side-over f is (entered (c .before .before .before .before .before .before .before .before .before .args .by-square)) (c .before .before .before .before .before .before .before .before .before .args .table .now) (r .result) (r .ensures),
+      c .before .before .fill-run2 .ensures .1 ∙ side-count f is (r .result) (r .ensures),
+    )
+
+fill-choice-same-length-4 : (t : ℕ) → fill-choice-lts.Need-same-length-4 (fill-choice-calls t) (fill-choice-at t) fill-choice.Post
+fill-choice-same-length-4 t c = c .before .before .fill-long-cut .kept .0
+
+fill-choice-returns-4 : (t : ℕ) → fill-choice-lts.Need-returns-4 (fill-choice-calls t) (fill-choice-at t) fill-choice.Post
+fill-choice-returns-4 t c = c .before .before .fill-long-cut .ensures
+
+fill-choice-same-length-5 : (t : ℕ) → fill-choice-lts.Need-same-length-5 (fill-choice-calls t) (fill-choice-at t) fill-choice.Post
+fill-choice-same-length-5 t c = c .before .before .fill-u-cut .kept .0
+
+fill-choice-returns-5 : (t : ℕ) → fill-choice-lts.Need-returns-5 (fill-choice-calls t) (fill-choice-at t) fill-choice.Post
+fill-choice-returns-5 t c = c .before .before .fill-u-cut .ensures
+
+fill-long-cut-even-half-requires : (t : ℕ) → fill-long-cut-lts.Need-even-half-requires (fill-long-cut-calls t) (fill-long-cut-at t) fill-long-cut.Post
+fill-long-cut-even-half-requires t c κs = tt
+
+fill-long-cut-mul-to-second : (t : ℕ) → fill-long-cut-lts.Need-mul-to-second (fill-long-cut-calls t) (fill-long-cut-at t) fill-long-cut.Post
+fill-long-cut-mul-to-second t c = record { fits = second-number (c .before .before .before .pre .1 .0) (c .before .before .before .pre .1 .1) (c .before .even-half .ensures) .0 }
+
+fill-long-cut-add-to-second : (t : ℕ) → fill-long-cut-lts.Need-add-to-second (fill-long-cut-calls t) (fill-long-cut-at t) fill-long-cut.Post
+fill-long-cut-add-to-second t c = record { fits = second-number (c .before .before .before .pre .1 .0) (c .before .before .before .pre .1 .1) (c .before .even-half .ensures) .1 }
+
+fill-long-cut-long-part-requires : (t : ℕ) → fill-long-cut-lts.Need-long-part-requires (fill-long-cut-calls t) (fill-long-cut-at t) fill-long-cut.Post
+fill-long-cut-long-part-requires t c κs = (largest (c .before .before .before .before .pre .1 .0), c .before .before .before .before .pre .1 .1)
+
+fill-long-cut-fill-block-requires : (t : ℕ) → fill-long-cut-lts.Need-fill-block-requires (fill-long-cut-calls t) (fill-long-cut-at t) fill-long-cut.Post
+fill-long-cut-fill-block-requires t c κs = let next = first-call (c .before .before .before .before .before .pre .1 .0) (c .before .before .before .before .before .pre .1 .1) (c .before .before .before .even-half .ensures) (c .long-part .result) (c .long-part .ensures) in
+    (subst (λ (m : ℕ). 3 * (c .long-part .result .a * c .long-part .result .b) + 2 < m) (c .before .before .before .before .before .pre .0) (next .0), next .1)
+
+fill-long-cut-long-part-requires-2 : (t : ℕ) → fill-long-cut-lts.Need-long-part-requires-2 (fill-long-cut-calls t) (fill-long-cut-at t) fill-long-cut.Post
+fill-long-cut-long-part-requires-2 t c κs = (largest (c .before .before .before .before .before .before .before .before .before .pre .1 .0), c .before .before .before .before .before .before .before .before .before .pre .1 .1)
+
+fill-long-cut-fill-block-requires-2 : (t : ℕ) → fill-long-cut-lts.Need-fill-block-requires-2 (fill-long-cut-calls t) (fill-long-cut-at t) fill-long-cut.Post
+fill-long-cut-fill-block-requires-2 t c κs = let next = second-call (c .before .before .before .before .before .before .before .before .before .before .pre .1 .0) (c .before .before .before .before .before .before .before .before .before .before .pre .1 .1) (c .before .before .before .before .before .before .before .before .even-half .ensures) (c .before .before .before .before .fill-block .last .0) (c .before .before .before .before .fill-block .kept .0) (c .long-part2 .result) (c .long-part2 .ensures) in
+    (subst (λ (m : ℕ). 3 * (c .long-part2 .result .a * c .long-part2 .result .b) + 2 < m) (c .before .before .before .before .before .before .before .before .before .before .pre .0) (next .0), next .1)
+
+fill-long-cut-add-result-2 : (t : ℕ) → fill-long-cut-lts.Need-add-result-2 (fill-long-cut-calls t) (fill-long-cut-at t) fill-long-cut.Post
+fill-long-cut-add-result-2 t c =
+    let all =
+    long-fits (c .before .before .before .before .before .before .before .before .before .before .before .before .before .pre .1 .0) (c .before .before .before .before .before .before .before .before .before .before .before .before .before .pre .1 .1) (c .before .before .before .before .before .before .before .before .before .before .before .even-half .ensures)
+    (c .before .before .before .before .before .before .before .fill-block .ensures .1 ∙ ap (λ j. length (blocks j)) (c .before .before .before .before .before .before .before .before .long-part .ensures))
+    (c .before .before .fill-block2 .ensures .1 ∙ ap (λ j. length (blocks j)) (c .before .before .before .long-part2 .ensures)) in
+    record { fits = omega arith }
+
+fill-long-cut-add-result : (t : ℕ) → fill-long-cut-lts.Need-add-result (fill-long-cut-calls t) (fill-long-cut-at t) fill-long-cut.Post
+fill-long-cut-add-result t c = record { fits = let all = fill-long-cut-add-result-2 t c .fits in omega arith }
+
+fill-long-cut-same-length : (t : ℕ) → fill-long-cut-lts.Need-same-length (fill-long-cut-calls t) (fill-long-cut-at t) fill-long-cut.Post
+fill-long-cut-same-length t c = c .before .before .fill-block2 .kept .0 ∙ c .before .before .before .before .before .before .before .fill-block .kept .0
+
+fill-long-cut-returns : (t : ℕ) → fill-long-cut-lts.Need-returns (fill-long-cut-calls t) (fill-long-cut-at t) fill-long-cut.Post
+fill-long-cut-returns t c = let by-square = c .before .before .before .before .before .before .before .before .before .before .before .before .before .args .by-square in
+    let w = c .before .before .before .before .before .before .before .before .before .before .before .before .before .args .area .w in
+    let first = c .before .before .before .before .before .before .before .before .long-part .ensures in
+    let second = c .before .before .before .long-part2 .ensures in (
+      c .before .before .fill-block2 .ensures .0
+          ∙ ap₂ (λ t j. walked by-square w t j (c .before .before .before .before .before .before .before .before .before .before .before .before .before .args .at + c .before .before .before .before .before .before .before .before .before .before .before .even-half .result * c .before .before .before .before .before .before .before .before .before .before .before .before .before .args .k .b))
+          (c .before .before .before .before .before .before .before .fill-block .ensures .0 ∙ ap (λ j. walked by-square w (c .before .before .before .before .before .before .before .before .before .before .before .before .before .args .table .now) j (c .before .before .before .before .before .before .before .before .before .before .before .before .before .args .at)) first) second
+          ∙ long-over (c .before .before .before .before .before .before .before .before .before .before .before .before .before .pre .1 .0) (c .before .before .before .before .before .before .before .before .before .before .before .before .before .pre .1 .1) (c .before .before .before .before .before .before .before .before .before .before .before .even-half .ensures) (entered by-square) (c .before .before .before .before .before .before .before .before .before .before .before .before .before .args .table .now),
+      long-count (c .before .before .before .before .before .before .before .before .before .before .before .before .before .pre .1 .0) (c .before .before .before .before .before .before .before .before .before .before .before .before .before .pre .1 .1) (c .before .before .before .before .before .before .before .before .before .before .before .even-half .ensures)
+          (c .before .before .before .before .before .before .before .fill-block .ensures .1 ∙ ap (λ j. length (blocks j)) first) (c .before .before .fill-block2 .ensures .1 ∙ ap (λ j. length (blocks j)) second),
+    )
+
+fill-u-cut-even-half-requires : (t : ℕ) → fill-u-cut-lts.Need-even-half-requires (fill-u-cut-calls t) (fill-u-cut-at t) fill-u-cut.Post
+fill-u-cut-even-half-requires t c κs = tt
+
+fill-u-cut-mul-to-b : (t : ℕ) → fill-u-cut-lts.Need-mul-to-b (fill-u-cut-calls t) (fill-u-cut-at t) fill-u-cut.Post
+fill-u-cut-mul-to-b t c = record { fits = u-numbers (c .before .before .before .pre .1 .0) (c .before .before .before .pre .1 .1) (c .before .even-half .ensures) .in-a }
+
+fill-u-cut-add-to-b : (t : ℕ) → fill-u-cut-lts.Need-add-to-b (fill-u-cut-calls t) (fill-u-cut-at t) fill-u-cut.Post
+fill-u-cut-add-to-b t c = record { fits = u-numbers (c .before .before .before .pre .1 .0) (c .before .before .before .pre .1 .1) (c .before .even-half .ensures) .to-b }
+
+fill-u-cut-sub-to-c : (t : ℕ) → fill-u-cut-lts.Need-sub-to-c (fill-u-cut-calls t) (fill-u-cut-at t) fill-u-cut.Post
+fill-u-cut-sub-to-c t c = u-numbers (c .before .before .before .before .pre .1 .0) (c .before .before .before .before .pre .1 .1) (c .before .before .even-half .ensures) .half
+
+fill-u-cut-mul-to-c : (t : ℕ) → fill-u-cut-lts.Need-mul-to-c (fill-u-cut-calls t) (fill-u-cut-at t) fill-u-cut.Post
+fill-u-cut-mul-to-c t c = record { fits = u-numbers (c .before .before .before .before .before .pre .1 .0) (c .before .before .before .before .before .pre .1 .1) (c .before .before .before .even-half .ensures) .in-b }
+
+fill-u-cut-add-to-c : (t : ℕ) → fill-u-cut-lts.Need-add-to-c (fill-u-cut-calls t) (fill-u-cut-at t) fill-u-cut.Post
+fill-u-cut-add-to-c t c = record { fits = u-numbers (c .before .before .before .before .before .pre .1 .0) (c .before .before .before .before .before .pre .1 .1) (c .before .before .before .even-half .ensures) .to-c }
+
+fill-u-cut-part-a-requires : (t : ℕ) → fill-u-cut-lts.Need-part-a-requires (fill-u-cut-calls t) (fill-u-cut-at t) fill-u-cut.Post
+fill-u-cut-part-a-requires t c κs = (largest (c .before .before .before .before .before .before .pre .1 .0), c .before .before .before .before .before .before .pre .1 .1)
+
+fill-u-cut-fill-block-requires : (t : ℕ) → fill-u-cut-lts.Need-fill-block-requires (fill-u-cut-calls t) (fill-u-cut-at t) fill-u-cut.Post
+fill-u-cut-fill-block-requires t c κs = let next = a-call (c .before .before .before .before .before .before .before .pre .1 .0) (c .before .before .before .before .before .before .before .pre .1 .1) (c .before .before .before .before .before .even-half .ensures) (c .part-a .result) (c .part-a .ensures) in
+    (subst (λ (m : ℕ). 3 * (c .part-a .result .a * c .part-a .result .b) + 2 < m) (c .before .before .before .before .before .before .before .pre .0) (next .0), next .1)
+
+fill-u-cut-part-b-requires : (t : ℕ) → fill-u-cut-lts.Need-part-b-requires (fill-u-cut-calls t) (fill-u-cut-at t) fill-u-cut.Post
+fill-u-cut-part-b-requires t c κs = (largest (c .before .before .before .before .before .before .before .before .before .before .before .pre .1 .0), c .before .before .before .before .before .before .before .before .before .before .before .pre .1 .1)
+
+fill-u-cut-fill-block-requires-2 : (t : ℕ) → fill-u-cut-lts.Need-fill-block-requires-2 (fill-u-cut-calls t) (fill-u-cut-at t) fill-u-cut.Post
+fill-u-cut-fill-block-requires-2 t c κs = let next = b-call (c .before .before .before .before .before .before .before .before .before .before .before .before .pre .1 .0) (c .before .before .before .before .before .before .before .before .before .before .before .before .pre .1 .1) (c .before .before .before .before .before .before .before .before .before .before .even-half .ensures) (c .before .before .before .before .fill-block .last .0) (c .before .before .before .before .fill-block .kept .0) (c .part-b .result) (c .part-b .ensures) in
+    (subst (λ (m : ℕ). 3 * (c .part-b .result .a * c .part-b .result .b) + 2 < m) (c .before .before .before .before .before .before .before .before .before .before .before .before .pre .0) (next .0), next .1)
+
+fill-u-cut-part-c-requires : (t : ℕ) → fill-u-cut-lts.Need-part-c-requires (fill-u-cut-calls t) (fill-u-cut-at t) fill-u-cut.Post
+fill-u-cut-part-c-requires t c κs = (largest (c .before .before .before .before .before .before .before .before .before .before .before .before .before .before .before .before .pre .1 .0), c .before .before .before .before .before .before .before .before .before .before .before .before .before .before .before .before .pre .1 .1)
+
+fill-u-cut-fill-block-requires-3 : (t : ℕ) → fill-u-cut-lts.Need-fill-block-requires-3 (fill-u-cut-calls t) (fill-u-cut-at t) fill-u-cut.Post
+fill-u-cut-fill-block-requires-3 t c κs = let next = c-call (c .before .before .before .before .before .before .before .before .before .before .before .before .before .before .before .before .before .pre .1 .0) (c .before .before .before .before .before .before .before .before .before .before .before .before .before .before .before .before .before .pre .1 .1) (c .before .before .before .before .before .before .before .before .before .before .before .before .before .before .before .even-half .ensures) (c .before .before .before .before .fill-block2 .last .0) (c .before .before .before .before .fill-block2 .kept .0 ∙ c .before .before .before .before .before .before .before .before .before .fill-block .kept .0) (c .part-c .result) (c .part-c .ensures) in
+    (subst (λ (m : ℕ). 3 * (c .part-c .result .a * c .part-c .result .b) + 2 < m) (c .before .before .before .before .before .before .before .before .before .before .before .before .before .before .before .before .before .pre .0) (next .0), next .1)
+
+fill-u-cut-add-result-3 : (t : ℕ) → fill-u-cut-lts.Need-add-result-3 (fill-u-cut-calls t) (fill-u-cut-at t) fill-u-cut.Post
+fill-u-cut-add-result-3 t c =
+    let all =
+    u-fits (c .before .before .before .before .before .before .before .before .before .before .before .before .before .before .before .before .before .before .before .before .pre .1 .0) (c .before .before .before .before .before .before .before .before .before .before .before .before .before .before .before .before .before .before .before .before .pre .1 .1) (c .before .before .before .before .before .before .before .before .before .before .before .before .before .before .before .before .before .before .even-half .ensures)
+    (c .before .before .before .before .before .before .before .before .before .before .before .before .fill-block .ensures .1 ∙ ap (λ j. length (blocks j)) (c .before .before .before .before .before .before .before .before .before .before .before .before .before .part-a .ensures))
+    (c .before .before .before .before .before .before .before .fill-block2 .ensures .1 ∙ ap (λ j. length (blocks j)) (c .before .before .before .before .before .before .before .before .part-b .ensures))
+    (c .before .before .fill-block3 .ensures .1 ∙ ap (λ j. length (blocks j)) (c .before .before .before .part-c .ensures)) in
+    record { fits = omega arith }
+
+fill-u-cut-add-result-2 : (t : ℕ) → fill-u-cut-lts.Need-add-result-2 (fill-u-cut-calls t) (fill-u-cut-at t) fill-u-cut.Post
+fill-u-cut-add-result-2 t c = record { fits = let all = fill-u-cut-add-result-3 t c .fits in omega arith }
+
+fill-u-cut-add-result : (t : ℕ) → fill-u-cut-lts.Need-add-result (fill-u-cut-calls t) (fill-u-cut-at t) fill-u-cut.Post
+fill-u-cut-add-result t c = record { fits = let all = fill-u-cut-add-result-3 t c .fits in omega arith }
+
+fill-u-cut-same-length : (t : ℕ) → fill-u-cut-lts.Need-same-length (fill-u-cut-calls t) (fill-u-cut-at t) fill-u-cut.Post
+fill-u-cut-same-length t c = c .before .before .fill-block3 .kept .0 ∙ c .before .before .before .before .before .before .before .fill-block2 .kept .0 ∙ c .before .before .before .before .before .before .before .before .before .before .before .before .fill-block .kept .0
+
+fill-u-cut-returns : (t : ℕ) → fill-u-cut-lts.Need-returns (fill-u-cut-calls t) (fill-u-cut-at t) fill-u-cut.Post
+fill-u-cut-returns t c = let by-square = c .before .before .before .before .before .before .before .before .before .before .before .before .before .before .before .before .before .before .before .before .args .by-square in
+    let w = c .before .before .before .before .before .before .before .before .before .before .before .before .before .before .before .before .before .before .before .before .args .area .w in
+    let at = c .before .before .before .before .before .before .before .before .before .before .before .before .before .before .before .before .before .before .before .before .args .at in
+    let k = c .before .before .before .before .before .before .before .before .before .before .before .before .before .before .before .before .before .before .before .before .args .k in
+    let e = c .before .before .before .before .before .before .before .before .before .before .before .before .before .before .before .before .before .before .even-half .result in
+    let a = c .before .before .before .before .before .before .before .before .before .before .before .before .before .part-a .ensures in
+    let b = c .before .before .before .before .before .before .before .before .part-b .ensures in
+    let d = c .before .before .before .part-c .ensures in (
+      c .before .before .fill-block3 .ensures .0
+          ∙ ap₂ (λ t j. walked by-square w t j (at + e * (k .a / 2) + k .a * (k .b - e)))
+          (c .before .before .before .before .before .before .before .fill-block2 .ensures .0
+          ∙ ap₂ (λ t j. walked by-square w t j (at + e * (k .a / 2))) (c .before .before .before .before .before .before .before .before .before .before .before .before .fill-block .ensures .0 ∙ ap (λ j. walked by-square w (c .before .before .before .before .before .before .before .before .before .before .before .before .before .before .before .before .before .before .before .before .args .table .now) j at) a) b) d
+          ∙ u-over (c .before .before .before .before .before .before .before .before .before .before .before .before .before .before .before .before .before .before .before .before .pre .1 .0) (c .before .before .before .before .before .before .before .before .before .before .before .before .before .before .before .before .before .before .before .before .pre .1 .1) (c .before .before .before .before .before .before .before .before .before .before .before .before .before .before .before .before .before .before .even-half .ensures) (entered by-square) (c .before .before .before .before .before .before .before .before .before .before .before .before .before .before .before .before .before .before .before .before .args .table .now),
+      u-count (c .before .before .before .before .before .before .before .before .before .before .before .before .before .before .before .before .before .before .before .before .pre .1 .0) (c .before .before .before .before .before .before .before .before .before .before .before .before .before .before .before .before .before .before .before .before .pre .1 .1) (c .before .before .before .before .before .before .before .before .before .before .before .before .before .before .before .before .before .before .even-half .ensures)
+          (c .before .before .before .before .before .before .before .before .before .before .before .before .fill-block .ensures .1 ∙ ap (λ j. length (blocks j)) a) (c .before .before .before .before .before .before .before .fill-block2 .ensures .1 ∙ ap (λ j. length (blocks j)) b) (c .before .before .fill-block3 .ensures .1 ∙ ap (λ j. length (blocks j)) d),
+    )
+
+pub +fill-block+fill-choice+fill-long-cut+fill-u-cut-spec : {M : Type 1} → statement M
++fill-block+fill-choice+fill-long-cut+fill-u-cut-spec =
+    close μ-fill-block μ-fill-choice μ-fill-long-cut μ-fill-u-cut (λ t. fill-block-lts.spec (fill-block-calls t)
+    (fill-block-at t)
+    fill-block.Post
+    (fill-block-fill-choice-requires t)
+    (fill-block-same-length t)
+    (fill-block-returns t))
+    (λ t. fill-choice-lts.spec (fill-choice-calls t)
+    (fill-choice-at t)
+    fill-choice.Post
+    (fill-choice-choose-requires t)
+    (fill-choice-enum-told t)
+    (fill-choice-fill-run-requires t)
+    (fill-choice-enum-told-2 t)
+    (fill-choice-exchanged-block-requires t)
+    (fill-choice-fill-run-requires-2 t)
+    (fill-choice-enum-told-3 t)
+    (fill-choice-fill-long-cut-requires t)
+    (fill-choice-enum-told-4 t)
+    (fill-choice-fill-leaf-requires t)
+    (fill-choice-same-length t)
+    (fill-choice-returns t)
+    (fill-choice-fill-u-cut-requires t)
+    (fill-choice-same-length-2 t)
+    (fill-choice-returns-2 t)
+    (fill-choice-same-length-3 t)
+    (fill-choice-returns-3 t)
+    (fill-choice-same-length-4 t)
+    (fill-choice-returns-4 t)
+    (fill-choice-same-length-5 t)
+    (fill-choice-returns-5 t))
+    (λ t. fill-long-cut-lts.spec (fill-long-cut-calls t)
+    (fill-long-cut-at t)
+    fill-long-cut.Post
+    (fill-long-cut-even-half-requires t)
+    (fill-long-cut-mul-to-second t)
+    (fill-long-cut-add-to-second t)
+    (fill-long-cut-long-part-requires t)
+    (fill-long-cut-fill-block-requires t)
+    (fill-long-cut-long-part-requires-2 t)
+    (fill-long-cut-fill-block-requires-2 t)
+    (fill-long-cut-add-result t)
+    (fill-long-cut-add-result-2 t)
+    (fill-long-cut-same-length t)
+    (fill-long-cut-returns t))
+    λ t. fill-u-cut-lts.spec (fill-u-cut-calls t)
+    (fill-u-cut-at t)
+    fill-u-cut.Post
+    (fill-u-cut-even-half-requires t)
+    (fill-u-cut-mul-to-b t)
+    (fill-u-cut-add-to-b t)
+    (fill-u-cut-sub-to-c t)
+    (fill-u-cut-mul-to-c t)
+    (fill-u-cut-add-to-c t)
+    (fill-u-cut-part-a-requires t)
+    (fill-u-cut-fill-block-requires t)
+    (fill-u-cut-part-b-requires t)
+    (fill-u-cut-fill-block-requires-2 t)
+    (fill-u-cut-part-c-requires t)
+    (fill-u-cut-fill-block-requires-3 t)
+    (fill-u-cut-add-result t)
+    (fill-u-cut-add-result-2 t)
+    (fill-u-cut-add-result-3 t)
+    (fill-u-cut-same-length t)
+    (fill-u-cut-returns t)
