@@ -6,7 +6,12 @@ use native.Mathlib.Omega.{arith}
 use borrow.Author.Tests.{le-leb, lt-leb}
 use lib.ListN.{length, drop, set}
 use Rattle.terms.specs.Terms.{Figures}
-use Rattle.exports.specs.Boundary.{returned, written}
+use Rattle.tables.specs.Tables.{unless-refused}
+use Rattle.exports.specs.Boundary.{returned, written, filled}
+
+pub set-one : (s : List ℕ) (x : ℕ) → 1 ≤ length s → set s 0 x ≡ x ∷ drop 1 s
+set-one [] x l = absurd (omega arith)
+set-one (a ∷ s) x l = refl
 
 pub set-two : (s : List ℕ) (x y : ℕ) → 2 ≤ length s → set (set s 0 x) 1 y ≡ x ∷ y ∷ drop 2 s
 set-two [] x y l = absurd (omega arith)
@@ -22,7 +27,19 @@ set-three (a ∷ b ∷ c ∷ s) x y z l = refl
 pub short : (n : ℕ) (f : Figures) (s : List ℕ) → length s < n → (255 ≡ returned n f s) × (s ≡ written n f s)
 short n f s l = rw (lt-leb n (length s) l) (refl, refl)
 
+-- An answer's figures, as a call returns and writes them, are the figures that are due.
+pub told : (n : ℕ) {f g : Figures} (s : List ℕ) → g ≡ f → (r : ℕ) → r ≡ g .refusal → (last : List ℕ) → last ≡ g .values ++ drop n s
+    → (r ≡ f .refusal) × (last ≡ f .values ++ drop n s)
+told n s e r p last q = (p ∙ ap (λ h. h .refusal) e, q ∙ ap (λ h. h .values ++ drop n s) e)
+
 pub answer : (n : ℕ) {f g : Figures} (s : List ℕ) → n ≤ length s → g ≡ f → (r : ℕ) → r ≡ g .refusal → (last : List ℕ) → last ≡ g .values ++ drop n s
     → (r ≡ returned n f s) × (last ≡ written n f s)
-answer n {f} {g} s l e r p last q =
-    rw (le-leb n (length s) l) (p ∙ ap (λ h. h .refusal) e, q ∙ ap (λ h. h .values ++ drop n s) e)
+answer n s l e r p last q = rw (le-leb n (length s) l) (told n s e r p last q)
+
+-- The table of a fill whose slice for the count is too short, or is not.
+pub short-kept : (f : Figures) (due table slice : List ℕ) → length slice < 1 → table ≡ filled f due table slice
+short-kept f due table slice l = rw (lt-leb 1 (length slice) l) refl
+
+pub table-filled : (f : Figures) (due table slice : List ℕ) → 1 ≤ length slice → (last : List ℕ) → last ≡ unless-refused f due table
+    → last ≡ filled f due table slice
+table-filled f due table slice l last e = rw (le-leb 1 (length slice) l) e

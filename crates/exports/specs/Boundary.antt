@@ -5,6 +5,7 @@ use Prim.Native.Nat.{ℕ}
 use lib.Dec.{leb}
 use lib.ListN.{length, drop}
 use Rattle.terms.specs.Terms.{Figures}
+use Rattle.tables.specs.Tables.{unless-refused}
 
 -- The refusal's number, 0 for none, or 255 where the slice is too short.
 abbrev pub returned : (n : ℕ) → Figures → List ℕ → ℕ
@@ -13,3 +14,7 @@ returned n f slice = cond (leb n (length slice)) (f .refusal) 255
 -- The values in the slice's first places and the rest as it was; a slice that is too short, whole as it was.
 abbrev pub written : (n : ℕ) → Figures → List ℕ → List ℕ
 written n f slice = cond (leb n (length slice)) (f .values ++ drop n slice) slice
+
+-- A table that is to be filled: as the fill leaves it, or as it was where the slice for the count of blocks is too short.
+abbrev pub filled : Figures → (due table slice : List ℕ) → List ℕ
+filled f due table slice = cond (leb 1 (length slice)) (unless-refused f due table) table

@@ -5,13 +5,16 @@
 use curve::FinishAnswer;
 use curve::NumberAnswer;
 use curve::SquareAnswer;
+use tables::CheckAnswer;
+use tables::FillAnswer;
 use terms::Area;
-ghost use mathlib.Core.List.{_∷_};
+ghost use mathlib.Core.List.{_∷_, _++_};
 ghost use mathlib.Core.Path.{_≡_};
 ghost use Prim.Native.Nat.{_≤_};
 ghost use lib.ListN.{length, drop};
 ghost use Rattle.curve.specs.Lookups.{number-to-square, square-to-number, finish-square};
-ghost use Rattle.exports.specs.Boundary.{returned, written};
+ghost use Rattle.tables.specs.Tables.{by-number, by-square, fill, fill-figures, check, check-figures};
+ghost use Rattle.exports.specs.Boundary.{returned, written, filled};
 
 // The first two, or three, places of a slice.
 fn put_two(result: &mut [u32], x: u32, y: u32)
@@ -101,4 +104,106 @@ pub extern "C" fn uvalinda_finish_square(w: u32, h: u32, result: &mut [u32]) -> 
             terms::refusal_number(r)
         }
     }
+}
+
+// A fill's answer: its count of blocks to the first place.
+fn tell_fill(answer: FillAnswer, blocks: &mut [u64]) -> u32
+    requires { ⌜ 1 ≤ length (now blocks) ⌝ }
+    ensures { λ r. ⌜ (r ≡ fill-figures answer .refusal) × (now (blocks .exit) ≡ fill-figures answer .values ++ drop 1 (now (blocks .entry))) ⌝ }
+{
+    match answer {
+        FillAnswer::Filled { blocks: count } => {
+            blocks[0] = count;
+            0
+        }
+        FillAnswer::Refused(r) => {
+            blocks[0] = 0;
+            terms::refusal_number(r)
+        }
+    }
+}
+
+// Fills a table by number, and counts the blocks of the division.
+#[no_mangle]
+pub extern "C" fn uvalinda_fill_by_number(
+    w: u32,
+    h: u32,
+    table: &mut [u32],
+    blocks: &mut [u64],
+) -> u32
+    ensures { λ r. ⌜ (r ≡ returned 1 (fill w h (now (table .entry))) (now (blocks .entry)))
+        × (now (blocks .exit) ≡ written 1 (fill w h (now (table .entry))) (now (blocks .entry)))
+        × (now (table .exit) ≡ filled (fill w h (now (table .entry))) (by-number w h) (now (table .entry)) (now (blocks .entry))) ⌝ }
+{
+    if blocks.len() < 1 {
+        return 255;
+    }
+    let answer = tables::fill_by_number(Area { w: w, h: h }, table);
+    tell_fill(answer, blocks)
+}
+
+// Fills a table by square, and counts the blocks of the division.
+#[no_mangle]
+pub extern "C" fn uvalinda_fill_by_square(
+    w: u32,
+    h: u32,
+    table: &mut [u32],
+    blocks: &mut [u64],
+) -> u32
+    ensures { λ r. ⌜ (r ≡ returned 1 (fill w h (now (table .entry))) (now (blocks .entry)))
+        × (now (blocks .exit) ≡ written 1 (fill w h (now (table .entry))) (now (blocks .entry)))
+        × (now (table .exit) ≡ filled (fill w h (now (table .entry))) (by-square w h) (now (table .entry)) (now (blocks .entry))) ⌝ }
+{
+    if blocks.len() < 1 {
+        return 255;
+    }
+    let answer = tables::fill_by_square(Area { w: w, h: h }, table);
+    tell_fill(answer, blocks)
+}
+
+// A check's answer: 0 where the table is right, else 1, the first wrong place and the value due there.
+fn tell_check(answer: CheckAnswer, result: &mut [u32]) -> u32
+    requires { ⌜ 3 ≤ length (now result) ⌝ }
+    ensures { λ r. ⌜ (r ≡ check-figures answer .refusal) × (now (result .exit) ≡ check-figures answer .values ++ drop 3 (now (result .entry))) ⌝ }
+{
+    match answer {
+        CheckAnswer::Right => {
+            put_three(result, 0, 0, 0);
+            0
+        }
+        CheckAnswer::Wrong { place, due } => {
+            put_three(result, 1, place, due);
+            0
+        }
+        CheckAnswer::Refused(r) => {
+            put_three(result, 0, 0, 0);
+            terms::refusal_number(r)
+        }
+    }
+}
+
+// Checks a table by number.
+#[no_mangle]
+pub extern "C" fn uvalinda_check_by_number(w: u32, h: u32, table: &[u32], result: &mut [u32]) -> u32
+    ensures { λ r. ⌜ (r ≡ returned 3 (check w h (by-number w h) (now (table .entry))) (now (result .entry)))
+        × (now (result .exit) ≡ written 3 (check w h (by-number w h) (now (table .entry))) (now (result .entry))) ⌝ }
+{
+    if result.len() < 3 {
+        return 255;
+    }
+    let answer = tables::check_by_number(Area { w: w, h: h }, table);
+    tell_check(answer, result)
+}
+
+// Checks a table by square.
+#[no_mangle]
+pub extern "C" fn uvalinda_check_by_square(w: u32, h: u32, table: &[u32], result: &mut [u32]) -> u32
+    ensures { λ r. ⌜ (r ≡ returned 3 (check w h (by-square w h) (now (table .entry))) (now (result .entry)))
+        × (now (result .exit) ≡ written 3 (check w h (by-square w h) (now (table .entry))) (now (result .entry))) ⌝ }
+{
+    if result.len() < 3 {
+        return 255;
+    }
+    let answer = tables::check_by_square(Area { w: w, h: h }, table);
+    tell_check(answer, result)
 }
