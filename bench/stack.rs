@@ -1,0 +1,97 @@
+// The stack that each call takes at 65,535 by 65,535, in bytes, read from the compiled code on standard input (`objdump -dr --no-show-raw-insn`):
+// what a function pushes and reserves and its return address, for the call and for all that it calls in turn. A walk calls itself once for each
+// block that it opens in another, so its share is taken as often as such blocks are nested.
+use std::collections::{BTreeMap, BTreeSet, HashMap};
+use std::io::Read;
+
+fn even_half(length: u32) -> u32 {
+    let half = length / 2;
+    if length > 2 && half % 2 == 1 { half + 1 } else { half }
+}
+
+// How many blocks, each in the one before, a walk opens at most in an a by b block. What is straight, or 2 wide and at most 3 deep, it does not cut.
+fn nested(a: u32, b: u32, known: &mut HashMap<(u32, u32), usize>) -> usize {
+    if a == 1 || b == 1 || a == 2 && b <= 3 {
+        return 1;
+    }
+    if let Some(&n) = known.get(&(a, b)) {
+        return n;
+    }
+    let parts = if 2 * a > 3 * b {
+        let e = even_half(a);
+        vec![(e, b), (a - e, b)]
+    } else {
+        let e = even_half(b);
+        vec![(e, a / 2), (a, b - e), (e, a - a / 2)]
+    };
+    let n = 1 + parts.into_iter().map(|(a, b)| nested(a, b, known)).max().unwrap();
+    known.insert((a, b), n);
+    n
+}
+
+#[derive(Default)]
+struct Function {
+    frame: usize,
+    calls: BTreeSet<String>,
+}
+
+fn number(text: &str) -> usize {
+    match text.strip_prefix("0x") {
+        Some(hex) => usize::from_str_radix(hex, 16).unwrap(),
+        None => text.parse().unwrap(),
+    }
+}
+
+// The bytes by which an instruction lowers the stack: x86-64's push and sub, Arm's sub and store with a lowered stack pointer.
+fn lowers(instruction: &str) -> usize {
+    let words: Vec<&str> = instruction.split_whitespace().collect();
+    match words[..] {
+        ["push", _] => 8,
+        ["sub", operands] if operands.ends_with(",%rsp") => number(operands.trim_start_matches('$').trim_end_matches(",%rsp")),
+        ["sub", "sp,", "sp,", size] => number(size.trim_start_matches('#')),
+        _ => instruction.split_once("[sp, #-").and_then(|(_, rest)| rest.split_once("]!")).map_or(0, |(size, _)| number(size)),
+    }
+}
+
+fn read(code: &str) -> BTreeMap<String, Function> {
+    let mut functions: BTreeMap<String, Function> = BTreeMap::new();
+    let mut name = String::new();
+    for line in code.lines() {
+        if let Some(head) = line.strip_suffix(">:") {
+            name = head.split_once('<').unwrap().1.to_string();
+            functions.insert(name.clone(), Function { frame: if cfg!(target_arch = "x86_64") { 8 } else { 0 }, ..Function::default() });
+            continue;
+        }
+        let Some((_, text)) = line.split_once(":\t").or_else(|| line.split_once(": R_")) else { continue };
+        let Some(function) = functions.get_mut(&name) else { continue };
+        if line.contains(": R_") {
+            let target = text.split_whitespace().last().unwrap();
+            let target = target.strip_prefix(".text.").unwrap_or(target);
+            function.calls.insert(target.rsplit_once(['-', '+']).map_or(target, |(before, _)| before).to_string());
+        } else if text.starts_with("call ") || text.starts_with("bl\t") || text.starts_with("bl ") {
+            function.calls.insert(text.split_once('<').map_or("", |(_, t)| t.trim_end_matches('>')).to_string());
+        } else {
+            function.frame += lowers(text);
+        }
+    }
+    functions
+}
+
+fn takes(name: &str, functions: &BTreeMap<String, Function>, depth: usize) -> usize {
+    let Some(function) = functions.get(name) else { return 0 };
+    let below = function.calls.iter().filter(|callee| *callee != name).map(|callee| takes(callee, functions, depth)).max().unwrap_or(0);
+    function.frame * if function.calls.contains(name) { depth } else { 1 } + below
+}
+
+fn main() {
+    let mut code = String::new();
+    std::io::stdin().read_to_string(&mut code).unwrap();
+    let functions = read(&code);
+    let depth = nested(65535, 65535, &mut HashMap::new());
+    println!("| call | stack, bytes |");
+    println!("|---|---|");
+    for name in functions.keys().filter(|name| name.starts_with("uvalinda_")) {
+        println!("| {name} | {} |", takes(name, &functions, depth));
+    }
+    println!("\nA walk opens at most {depth} blocks of 65535 by 65535, each in the one before.");
+}
