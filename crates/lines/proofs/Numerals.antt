@@ -1,0 +1,99 @@
+-- Digits read one by one: what is due of the whole field is what is due of the rest, with the value so far, which is below ten to the number of digits.
+use mathlib.Core.Bool.{Bool, true, false, not, cond, _&&_}
+use mathlib.Core.List.{List, [], _∷_}
+use mathlib.Core.Path.{_≡_, refl, sym, ap, subst, _∙_}
+use Prim.Native.Nat.{ℕ, suc, _+_, _-_, _*_, _≤_, _<_, _^_}
+use native.Mathlib.Nat.{zero-lt-suc, lt-of-lt-of-le, pow-le-pow-right}
+use native.Mathlib.Omega.{arith}
+use borrow.Author.Tests.{le-leb, lt-leb}
+use lib.Dec.{leb, eqb}
+use lib.ListN.{length, getD, drop}
+use lib.Seq.{drop-cons, drop-length}
+use Rattle.lines.specs.declared.Numeral.the-variants.{Value, NoNumber}
+use Rattle.lines.specs.Lines.{all-digits, well-begun, value-on, value, is-number, numeral}
+
+-- the value of digits that follow the value n, or one over the largest number if a byte is no digit
+abbrev pub due : ℕ → List ℕ → ℕ
+due n bs = cond (all-digits bs) (value-on n bs) 4294967296
+
+pub due-on : (s : List ℕ) (i v : ℕ) → i < length s → 48 ≤ getD s i 0 → getD s i 0 ≤ 57 → due (v * 10 + (getD s i 0 - 48)) (drop (i + 1) s) ≡ due v (drop i s)
+unfolding all-digits value-on
+due-on s i v l low high =
+    let on : i + 1 ≡ suc i = omega arith in
+    rw on (rw (drop-cons s i 0 l) (rw (le-leb 48 (getD s i 0) low, le-leb (getD s i 0) 57 high) refl))
+
+pub due-low : (s : List ℕ) (i v : ℕ) → i < length s → getD s i 0 < 48 → 4294967296 ≡ due v (drop i s)
+unfolding all-digits
+due-low s i v l low = rw (drop-cons s i 0 l) (rw (lt-leb 48 (getD s i 0) low) refl)
+
+pub due-high : (s : List ℕ) (i v : ℕ) → i < length s → 48 ≤ getD s i 0 → 57 < getD s i 0 → 4294967296 ≡ due v (drop i s)
+unfolding all-digits
+due-high s i v l low high = rw (drop-cons s i 0 l) (rw (le-leb 48 (getD s i 0) low, lt-leb (getD s i 0) 57 high) refl)
+
+pub due-end : (s : List ℕ) (i v : ℕ) → i ≡ length s → v ≡ due v (drop i s)
+unfolding all-digits value-on
+due-end s i v e = rw (ap (λ n. drop n s) e ∙ drop-length s) refl
+
+-- a value of i digits
+pub below-ten : (v d i : ℕ) → v < 10 ^ i → d ≤ 9 → v * 10 + d < 10 ^ (i + 1)
+below-ten v d i l m = let on : i + 1 ≡ suc i = omega arith in rw on (omega arith)
+
+pub ten-digits : (v i : ℕ) → v < 10 ^ i → i ≤ 10 → v < 10000000000
+ten-digits v i l m = lt-of-lt-of-le l (pow-le-pow-right (zero-lt-suc 9) m)
+
+-- how a field begins
+pub begun-not : (s : List ℕ) → length s < 1 → false ≡ well-begun s
+begun-not [] l = refl
+begun-not (b ∷ s) l = absurd (omega arith)
+
+pub begun-single : (s : List ℕ) → 1 ≤ length s → length s < 2 → true ≡ well-begun s
+begun-single [] l m = absurd (omega arith)
+begun-single (b ∷ []) l m = refl
+begun-single (b ∷ c ∷ s) l m = absurd (omega arith)
+
+pub begun-by : (s : List ℕ) → 2 ≤ length s → not (eqb (getD s 0 0) 48) ≡ well-begun s
+begun-by [] l = absurd (omega arith)
+begun-by (b ∷ []) l = absurd (omega arith)
+begun-by (b ∷ c ∷ s) l = refl
+
+-- four tests of which one fails
+no-second : (a c d : Bool) → (a && false && c && d) ≡ false
+no-second true c d = refl
+no-second false c d = refl
+
+no-last : (a b c d : Bool) → (c && d) ≡ false → (a && b && c && d) ≡ false
+no-last false b c d e = refl
+no-last true false c d e = refl
+no-last true true c d e = e
+
+-- a field that is no number, and one that is
+module _ (s : List ℕ) where
+  pub ill-begun : well-begun s ≡ false → NoNumber ≡ numeral s
+  unfolding numeral is-number
+  ill-begun e = sym (rw e)
+
+  pub too-long : 10 < length s → NoNumber ≡ numeral s
+  unfolding numeral is-number
+  too-long l = sym (rw (lt-leb (length s) 10 l) (ap (λ t. cond t (Value (value s)) NoNumber) (no-second (well-begun s) (all-digits s) (leb (value s) 4294967295))))
+
+  module _ (v : ℕ) (is : v ≡ due 0 s) where
+    over-by : (t : Bool) → all-digits s ≡ t → 4294967295 < v → (all-digits s && leb (value s) 4294967295) ≡ false
+    over-by true e l = rw e (lt-leb (value s) 4294967295 (subst (λ (n : ℕ). 4294967295 < n) (is ∙ rw e refl) l))
+    over-by false e l = rw e refl
+
+    pub too-large : 4294967295 < v → NoNumber ≡ numeral s
+    unfolding numeral is-number
+    too-large l =
+        sym
+        (ap (λ t. cond t (Value (value s)) NoNumber)
+        (no-last (well-begun s) (leb (length s) 10) (all-digits s) (leb (value s) 4294967295) (over-by (all-digits s) refl l)))
+
+    pub a-number : well-begun s ≡ true → length s ≤ 10 → v ≤ 4294967295 → Value v ≡ numeral s
+    unfolding numeral is-number
+    a-number begun few least = by (all-digits s) refl
+      where
+        by : (t : Bool) → all-digits s ≡ t → Value v ≡ numeral s
+        by true e =
+            let same : v ≡ value s = is ∙ rw e refl in
+            ap Value same ∙ sym (rw (begun, le-leb (length s) 10 few, e, le-leb (value s) 4294967295 (subst (λ (n : ℕ). n ≤ 4294967295) same least)))
+        by false e = absurd (let over : v ≡ 4294967296 = is ∙ rw e refl in omega arith)

@@ -1,0 +1,20 @@
+-- `lines::begins_well` meets its contract.
+use borrow.Author.Needs.{needs}
+use Rattle.lines.proofs.Numerals.{begun-not, begun-single, begun-by}
+use Rattle.lines.proofs.begins_well.Statement.{statement}
+use Rattle.lines.proofs.begins_well.Tie as tie
+
+returns : tie.Need-returns
+returns c = begun-not (c .before .args .s .now) (c .if1 .taken)
+
+returns-2 : tie.Need-returns-2
+returns-2 c = begun-single (c .before .before .args .s .now) (c .before .if1 .left) (c .if2 .taken)
+
+shared-slice-read-result : tie.Need-shared-slice-read-result
+shared-slice-read-result c = search needs
+
+returns-3 : tie.Need-returns-3
+returns-3 c = begun-by (c .before .before .before .args .s .now) (c .before .if2 .left)
+
+pub begins-well-spec : {M : Type 1} → statement M
+begins-well-spec = tie.close (tie.spec returns returns-2 shared-slice-read-result returns-3)

@@ -1,0 +1,46 @@
+-- `lines::bytes_of` meets its contract: a field that does not lie in the line has no bytes.
+use borrow.Author.Needs.{needs}
+use mathlib.Core.Bool.{and-false}
+use mathlib.Core.Path.{sym}
+use borrow.Author.Tests.{le-leb, lt-leb}
+use lib.Dec.{leb}
+use lib.ListN.{length}
+use Rattle.lines.specs.Reading.{piece}
+use Rattle.lines.proofs.bytes_of.Statement.{statement}
+use Rattle.lines.proofs.bytes_of.Tie as tie
+
+slice-aggregate-result : tie.Need-slice-aggregate-result
+slice-aggregate-result c = search needs
+
+returns : tie.Need-returns
+unfolding piece
+returns c = sym (rw (lt-leb (c .before .before .args .f .start) (c .before .before .args .f .end) (c .before .if1 .taken)))
+
+slice-aggregate-result-2 : tie.Need-slice-aggregate-result-2
+slice-aggregate-result-2 c = search needs
+
+returns-2 : tie.Need-returns-2
+unfolding piece
+returns-2 c = sym (rw (lt-leb (c .before .before .before .args .f .end) (length (c .before .before .before .args .line .now)) (c .before .if2 .taken)) (rw (and-false (leb (c .before .before .before .args .f .start) (c .before .before .before .args .f .end)))))
+
+part-result-start : tie.Need-part-result-start
+part-result-start c = search needs
+
+part-result-end : tie.Need-part-result-end
+part-result-end c = search needs
+
+returns-3 : tie.Need-returns-3
+unfolding piece
+returns-3 c = sym (rw (le-leb (c .before .before .before .args .f .start) (c .before .before .before .args .f .end) (c .before .before .if1 .left), le-leb (c .before .before .before .args .f .end) (length (c .before .before .before .args .line .now)) (c .before .if2 .left)))
+
+pub bytes-of-spec : {M : Type 1} → statement M
+bytes-of-spec =
+    tie.close
+    (tie.spec
+    slice-aggregate-result
+    returns
+    slice-aggregate-result-2
+    returns-2
+    part-result-start
+    part-result-end
+    returns-3)

@@ -1,0 +1,70 @@
+-- `lines::digits_value` meets its contract. What is due of the whole field is due of the rest with the value so far (`Numerals`); the measure is what is
+-- left of the field.
+use mathlib.Core.Path.{_≡_, refl, _∙_}
+use Prim.Native.Nat.{_≤_, _<_, _-_, _^_}
+use native.Mathlib.Omega.{arith}
+use lib.ListN.{drop}
+use Rattle.lines.proofs.Numerals.{due, due-on, due-low, due-high, due-end, below-ten, ten-digits}
+use Rattle.lines.proofs.digits_value.Statement.{statement}
+use Rattle.lines.proofs.digits_value.Tie as tie
+
+abbrev Inv-loop : tie.InvT-loop
+Inv-loop s v₀ i₀ i-end v i = (i ≤ i-end) × (v < 10 ^ i) × (due v (drop i s) ≡ due 0 s)
+
+abbrev μ-loop : tie.MeasureT-loop
+μ-loop s v₀ i₀ i-end v i = i-end - i
+
+loop-holds : tie.Need-loop-holds Inv-loop μ-loop
+loop-holds c = (omega arith, omega arith, refl)
+
+shared-slice-read-b : tie.Need-shared-slice-read-b Inv-loop μ-loop
+shared-slice-read-b c = c .before .loop-test .taken
+
+returns : tie.Need-returns Inv-loop μ-loop
+returns c = due-low _ _ _ (c .before .before .loop-test .taken) (c .if1 .taken) ∙ c .before .before .before .loop .inv .2
+
+returns-2 : tie.Need-returns-2 Inv-loop μ-loop
+returns-2 c = due-high _ _ _ (c .before .before .before .loop-test .taken) (c .before .if1 .left) (c .if2 .taken) ∙ c .before .before .before .before .loop .inv .2
+
+mul-v : tie.Need-mul-v Inv-loop μ-loop
+mul-v c = record { fits = let few = ten-digits _ _ (c .before .before .before .before .loop .inv .1) (let l = c .before .before .before .loop-test .taken in let most = c .before .before .before .before .before .pre in omega arith) in omega arith }
+
+cast-v : tie.Need-cast-v Inv-loop μ-loop
+cast-v c = record { fits = let high = c .if2 .left in omega arith }
+
+add-v : tie.Need-add-v Inv-loop μ-loop
+add-v c = record { fits = let few = ten-digits _ _ (c .before .before .before .before .loop .inv .1) (let l = c .before .before .before .loop-test .taken in let most = c .before .before .before .before .before .pre in omega arith) in let high = c .if2 .left in omega arith }
+
+add-i : tie.Need-add-i Inv-loop μ-loop
+add-i c = record { fits = let l = c .before .before .before .loop-test .taken in omega arith }
+
+loop-less : tie.Need-loop-less Inv-loop μ-loop
+loop-less c = let l = c .before .before .before .loop-test .taken in omega arith
+
+loop-again : tie.Need-loop-again Inv-loop μ-loop
+loop-again c =
+    let l = c .before .before .before .loop-test .taken in
+    let low = c .before .if1 .left in
+    let high = c .if2 .left in
+    (omega arith, below-ten _ _ _ (c .before .before .before .before .loop .inv .1) (omega arith), due-on _ _ _ l low high ∙ c .before .before .before .before .loop .inv .2)
+
+returns-3 : tie.Need-returns-3 Inv-loop μ-loop
+returns-3 c = due-end (c .before .before .args .s .now) (c .before .loop .i) (c .before .loop .v) (let most = c .before .loop .inv .0 in let last = c .loop-test .left in omega arith) ∙ c .before .loop .inv .2
+
+pub digits-value-spec : {M : Type 1} → statement M
+digits-value-spec =
+    tie.close
+    (tie.spec
+    Inv-loop
+    μ-loop
+    loop-holds
+    shared-slice-read-b
+    returns
+    returns-2
+    mul-v
+    cast-v
+    add-v
+    add-i
+    loop-less
+    loop-again
+    returns-3)

@@ -1,0 +1,21 @@
+-- `lines::field_at` meets its contract: the next field begins behind a space, if there is one.
+use borrow.Author.Needs.{needs}
+use native.Mathlib.Omega.{arith}
+use Rattle.lines.proofs.Words.{one-more, no-more}
+use Rattle.lines.proofs.field_at.Statement.{statement}
+use Rattle.lines.proofs.field_at.Tie as tie
+
+end-of-requires : tie.Need-end-of-requires
+end-of-requires c κs = search needs
+
+add-t6 : tie.Need-add-t6
+add-t6 c = record { fits = let l = c .if1 .taken in omega arith }
+
+returns : tie.Need-returns
+returns c = one-more _ _ _ (c .before .end-of .ensures) (c .if1 .taken)
+
+returns-2 : tie.Need-returns-2
+returns-2 c = no-more _ _ _ (c .before .end-of .ensures) (c .if1 .left)
+
+pub field-at-spec : {M : Type 1} → statement M
+field-at-spec = tie.close (tie.spec end-of-requires add-t6 returns returns-2)

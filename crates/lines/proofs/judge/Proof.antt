@@ -1,0 +1,57 @@
+-- `lines::judge` meets its contract: the tests are the definition's, and the fields' bytes are its pieces.
+use borrow.Author.Needs.{needs}
+use mathlib.Core.Path.{sym, ap₂, _∙_}
+use borrow.Author.Tests.{eq-eqb, ne-eqb}
+use lib.ListN.{length}
+use Rattle.lines.specs.Lines.{two-fields, three-fields}
+use Rattle.lines.specs.Reading.{judged}
+use Rattle.lines.proofs.judge.Statement.{statement}
+use Rattle.lines.proofs.judge.Tie as tie
+
+bytes-of-requires : tie.Need-bytes-of-requires
+bytes-of-requires c κs = search needs
+
+bytes-of-requires-2 : tie.Need-bytes-of-requires-2
+bytes-of-requires-2 c κs = search needs
+
+two-fields-requires : tie.Need-two-fields-requires
+two-fields-requires c κs = search needs
+
+returns : tie.Need-returns
+unfolding judged
+returns c = c .two-fields .ensures ∙ ap₂ two-fields (c .before .before .bytes-of .ensures) (c .before .bytes-of2 .ensures) ∙ sym (rw (eq-eqb (c .before .before .before .before .before .before .args .b .end) (length (c .before .before .before .before .before .before .args .line .now)) (c .before .before .before .if1 .taken)))
+
+bytes-of-requires-3 : tie.Need-bytes-of-requires-3
+bytes-of-requires-3 c κs = search needs
+
+bytes-of-requires-4 : tie.Need-bytes-of-requires-4
+bytes-of-requires-4 c κs = search needs
+
+bytes-of-requires-5 : tie.Need-bytes-of-requires-5
+bytes-of-requires-5 c κs = search needs
+
+three-fields-requires : tie.Need-three-fields-requires
+three-fields-requires c κs = search needs
+
+returns-2 : tie.Need-returns-2
+unfolding judged
+returns-2 c = c .three-fields .ensures ∙ (λ i. three-fields (c .before .before .before .bytes-of3 .ensures i) (c .before .before .bytes-of4 .ensures i) (c .before .bytes-of5 .ensures i)) ∙ sym (rw (ne-eqb (c .before .before .before .before .before .before .before .before .before .args .b .end) (length (c .before .before .before .before .before .before .before .before .before .args .line .now)) (c .before .before .before .before .before .before .if1 .left), eq-eqb (c .before .before .before .before .before .before .before .before .before .args .c .end) (length (c .before .before .before .before .before .before .before .before .before .args .line .now)) (c .before .before .before .before .if2 .taken)))
+
+returns-3 : tie.Need-returns-3
+unfolding judged
+returns-3 c = sym (rw (ne-eqb (c .before .before .before .before .before .args .b .end) (length (c .before .before .before .before .before .args .line .now)) (c .before .before .if1 .left), ne-eqb (c .before .before .before .before .before .args .c .end) (length (c .before .before .before .before .before .args .line .now)) (c .if2 .left)))
+
+pub judge-spec : {M : Type 1} → statement M
+judge-spec =
+    tie.close
+    (tie.spec
+    bytes-of-requires
+    bytes-of-requires-2
+    two-fields-requires
+    returns
+    bytes-of-requires-3
+    bytes-of-requires-4
+    bytes-of-requires-5
+    three-fields-requires
+    returns-2
+    returns-3)

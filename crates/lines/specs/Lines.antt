@@ -1,0 +1,104 @@
+-- What an order line says: document 01, "Order lines", its shapes and its numbers, and refusals 5, 6 and 8.
+use mathlib.Core.Bool.{Bool, true, false, not, cond, _&&_, _||_}
+use mathlib.Core.List.{List, [], _∷_}
+use Prim.Native.Nat.{ℕ, _+_, _-_, _*_}
+use lib.Dec.{leb, eqb}
+use lib.ListN.{length}
+use Rattle.terms.specs.declared.Refusal.the-variants.{NotANumber, WrongShape, LongLine}
+use Rattle.lines.specs.declared.Numeral.{Numeral}
+use Rattle.lines.specs.declared.Numeral.the-variants.{Value, NoNumber}
+use Rattle.lines.specs.declared.Request.{Request}
+use Rattle.lines.specs.declared.Request.the-variants.{SetArea, AskNumber, AskSquare, Refused}
+
+-- "with exactly one space between fields": the fields of a line are what stands between its spaces (byte 32), and may be empty.
+abbrev pub onto : ℕ → List (List ℕ) → List (List ℕ)
+onto b [] = (b ∷ []) ∷ []
+onto b (f ∷ fs) = (b ∷ f) ∷ fs
+
+unfoldable pub fields : List ℕ → List (List ℕ)
+fields [] = [] ∷ []
+fields (b ∷ bs) = cond (eqb b 32) ([] ∷ fields bs) (onto b (fields bs))
+
+-- "A number is 1 to 10 digits": bytes 48 to 57.
+abbrev pub is-digit : ℕ → Bool
+is-digit b = leb 48 b && leb b 57
+
+unfoldable pub all-digits : List ℕ → Bool
+all-digits [] = true
+all-digits (b ∷ bs) = is-digit b && all-digits bs
+
+-- "first digit not 0 unless it is the single digit"
+abbrev pub well-begun : List ℕ → Bool
+well-begun [] = false
+well-begun (b ∷ []) = true
+well-begun (b ∷ c ∷ bs) = not (eqb b 48)
+
+-- The value of digits that follow the value n.
+unfoldable pub value-on : ℕ → List ℕ → ℕ
+value-on n [] = n
+value-on n (b ∷ bs) = value-on (n * 10 + (b - 48)) bs
+
+abbrev pub value : List ℕ → ℕ
+value f = value-on 0 f
+
+-- "value at most 4,294,967,295"
+unfoldable pub is-number : List ℕ → Bool
+is-number f = well-begun f && leb (length f) 10 && all-digits f && leb (value f) 4294967295
+
+unfoldable pub numeral : List ℕ → Numeral
+numeral f = cond (is-number f) (Value (value f)) NoNumber
+
+-- The first words.
+abbrev pub AREA : List ℕ
+AREA = 65 ∷ 82 ∷ 69 ∷ 65 ∷ []
+
+abbrev pub N : List ℕ
+N = 78 ∷ []
+
+abbrev pub S : List ℕ
+S = 83 ∷ []
+
+unfoldable pub same-bytes : List ℕ → List ℕ → Bool
+same-bytes [] [] = true
+same-bytes [] (b ∷ bs) = false
+same-bytes (a ∷ cs) [] = false
+same-bytes (a ∷ cs) (b ∷ bs) = eqb a b && same-bytes cs bs
+
+-- What a line of the right shape asks, of one field or of two: an empty field is refusal 6, and one that is not a number refusal 5.
+abbrev pub is-empty : List ℕ → Bool
+is-empty [] = true
+is-empty (b ∷ bs) = false
+
+abbrev pub by-one : (ℕ → Request) → Numeral → Request
+by-one asked (Value i) = asked i
+by-one asked NoNumber = Refused NotANumber
+
+abbrev pub of-one : (ℕ → Request) → List ℕ → Request
+of-one asked a = cond (is-empty a) (Refused WrongShape) (by-one asked (numeral a))
+
+abbrev pub by-two : (ℕ → ℕ → Request) → Numeral → Numeral → Request
+by-two asked (Value x) (Value y) = asked x y
+by-two asked (Value x) NoNumber = Refused NotANumber
+by-two asked NoNumber n = Refused NotANumber
+
+abbrev pub of-two : (ℕ → ℕ → Request) → List ℕ → List ℕ → Request
+of-two asked a b = cond (is-empty a || is-empty b) (Refused WrongShape) (by-two asked (numeral a) (numeral b))
+
+-- "AREA w h, N i, S x y. An unknown first word, a missing, extra or empty field, or an empty line is refusal 6."
+abbrev pub two-fields : (word a : List ℕ) → Request
+two-fields word a = cond (same-bytes word N) (of-one AskNumber a) (Refused WrongShape)
+
+abbrev pub three-fields : (word a b : List ℕ) → Request
+three-fields word a b =
+    cond (same-bytes word AREA) (of-two SetArea a b) (cond (same-bytes word S) (of-two AskSquare a b) (Refused WrongShape))
+
+unfoldable pub shaped : List (List ℕ) → Request
+shaped [] = Refused WrongShape
+shaped (word ∷ []) = Refused WrongShape
+shaped (word ∷ a ∷ []) = two-fields word a
+shaped (word ∷ a ∷ b ∷ []) = three-fields word a b
+shaped (word ∷ a ∷ b ∷ c ∷ fs) = Refused WrongShape
+
+-- "8: a line has over 64 bytes"; "For a line it is 8, 6, 5".
+unfoldable pub request : List ℕ → Request
+request line = cond (leb (length line) 64) (shaped (fields line)) (Refused LongLine)

@@ -1,0 +1,283 @@
+// The fields of an order line: the reader that takes them one at a time, the numbers in them, and what the line asks.
+use terms::Refusal;
+ghost use mathlib.Core.Bool.{cond};
+ghost use mathlib.Core.List.{[], _∷_};
+ghost use mathlib.Core.Path.{_≡_};
+ghost use Prim.Native.Nat.{_≤_};
+ghost use lib.ListN.{length};
+ghost use Rattle.lines.specs.declared.Request.the-variants.{SetArea, AskNumber, AskSquare};
+ghost use Rattle.lines.specs.Lines.{all-digits, well-begun, value, numeral, same-bytes, AREA, of-one, of-two, two-fields, three-fields, request};
+ghost use Rattle.lines.specs.Reading.{field-at, piece, judged, three-read};
+
+// What a line asks.
+pub enum Request {
+    SetArea { w: u32, h: u32 },
+    AskNumber { i: u32 },
+    AskSquare { x: u32, y: u32 },
+    Refused(Refusal),
+}
+
+// Where a field's bytes begin and end, and where the next field begins: at a place that no line has if there is none.
+pub struct Field {
+    pub start: usize,
+    pub end: usize,
+    pub next: usize,
+}
+
+// Where the bytes from a place on that are no space end.
+fn end_of(line: &[u8], at: usize) -> usize
+    ensures { λ r. ⌜ r ≡ field-at (now (line .entry)) at .end ⌝ }
+{
+    let mut end = at;
+    while end < line.len() {
+        if line[end] == 32 {
+            return end;
+        }
+        end = end + 1;
+    }
+    end
+}
+
+// The field of a line that begins at a place.
+pub fn field_at(line: &[u8], at: usize) -> Field
+    ensures { λ r. ⌜ r ≡ field-at (now (line .entry)) at ⌝ }
+{
+    let end = end_of(line, at);
+    if end < line.len() {
+        return Field {
+            start: at,
+            end: end,
+            next: end + 1,
+        };
+    }
+    Field {
+        start: at,
+        end: end,
+        next: 18446744073709551615,
+    }
+}
+
+// A line and a place in it: the fields are taken one at a time, left to right.
+pub struct Reader<'a> {
+    pub line: &'a [u8],
+    pub at: usize,
+}
+
+// A reader at a line's first field.
+pub fn over<'a>(line: &'a [u8]) -> Reader<'a>
+    ensures { λ r. ⌜ (r .line ≡ line .entry) × (r .at ≡ 0) ⌝ }
+{
+    Reader { line, at: 0 }
+}
+
+// The field that a reader takes, at its place.
+pub fn taken<'a>(r: Reader<'a>) -> Field
+    ensures { λ f. ⌜ f ≡ field-at (now (r .entry .line)) (r .entry .at) ⌝ }
+{
+    field_at(r.line, r.at)
+}
+
+// The reader behind a field.
+pub fn behind<'a>(r: Reader<'a>, f: Field) -> Reader<'a>
+    ensures { λ q. ⌜ (q .line ≡ r .entry .line) × (q .at ≡ f .next) ⌝ }
+{
+    Reader {
+        line: r.line,
+        at: f.next,
+    }
+}
+
+// The bytes of a field, none if it does not lie in the line.
+fn bytes_of<'a>(line: &'a [u8], f: Field) -> &'a [u8]
+    ensures { λ r. ⌜ now r ≡ piece (now (line .entry)) f ⌝ }
+{
+    let start = f.start;
+    let end = f.end;
+    if end < start {
+        return &line[..0];
+    }
+    if line.len() < end {
+        return &line[..0];
+    }
+    &line[start..end]
+}
+
+// A field read as a number.
+pub enum Numeral {
+    Value(u32),
+    NoNumber,
+}
+
+// The value of up to ten digits, or one over the largest number if a byte is no digit.
+fn digits_value(s: &[u8]) -> u64
+    requires { ⌜ length (now s) ≤ 10 ⌝ }
+    ensures { λ r. ⌜ r ≡ cond (all-digits (now (s .entry))) (value (now (s .entry))) 4294967296 ⌝ }
+{
+    let mut v: u64 = 0;
+    for i in 0..s.len() {
+        let b = s[i];
+        if b < 48 {
+            return 4294967296;
+        }
+        if 57 < b {
+            return 4294967296;
+        }
+        v = v * 10 + (b - 48) as u64;
+    }
+    v
+}
+
+// Whether a field has a first byte, which is not a 0 with others behind it.
+fn begins_well(s: &[u8]) -> bool
+    ensures { λ r. ⌜ r ≡ well-begun (now (s .entry)) ⌝ }
+{
+    if s.len() < 1 {
+        return false;
+    }
+    if s.len() < 2 {
+        return true;
+    }
+    s[0] != 48
+}
+
+// A field's number: 1 to 10 digits, no needless 0 before them, at most 4,294,967,295.
+pub fn number(s: &[u8]) -> Numeral
+    ensures { λ r. ⌜ r ≡ numeral (now (s .entry)) ⌝ }
+{
+    if !begins_well(s) {
+        return Numeral::NoNumber;
+    }
+    if 10 < s.len() {
+        return Numeral::NoNumber;
+    }
+    let v = digits_value(s);
+    if 4294967295 < v {
+        return Numeral::NoNumber;
+    }
+    Numeral::Value(v as u32)
+}
+
+// Whether a field is one letter.
+fn is_letter(s: &[u8], letter: u8) -> bool
+    ensures { λ r. ⌜ r ≡ same-bytes (now (s .entry)) (letter ∷ []) ⌝ }
+{
+    if s.len() != 1 {
+        return false;
+    }
+    s[0] == letter
+}
+
+// Whether a field is the word AREA.
+pub fn is_area(s: &[u8]) -> bool
+    ensures { λ r. ⌜ r ≡ same-bytes (now (s .entry)) AREA ⌝ }
+{
+    if s.len() != 4 {
+        return false;
+    }
+    if s[0] != 65 {
+        return false;
+    }
+    if s[1] != 82 {
+        return false;
+    }
+    if s[2] != 69 {
+        return false;
+    }
+    s[3] == 65
+}
+
+// What a line asks with one number behind its word.
+fn with_one(a: &[u8]) -> Request
+    ensures { λ r. ⌜ r ≡ of-one AskNumber (now (a .entry)) ⌝ }
+{
+    if a.len() < 1 {
+        return Request::Refused(Refusal::WrongShape);
+    }
+    match number(a) {
+        Numeral::Value(i) => Request::AskNumber { i: i },
+        Numeral::NoNumber => Request::Refused(Refusal::NotANumber),
+    }
+}
+
+// What a line asks with two numbers behind its word. Both fields have to be there before either is read.
+fn with_two(a: &[u8], b: &[u8], area: bool) -> Request
+    ensures { λ r. ⌜ r ≡ of-two (cond area SetArea AskSquare) (now (a .entry)) (now (b .entry)) ⌝ }
+{
+    if a.len() < 1 {
+        return Request::Refused(Refusal::WrongShape);
+    }
+    if b.len() < 1 {
+        return Request::Refused(Refusal::WrongShape);
+    }
+    match number(a) {
+        Numeral::Value(x) => match number(b) {
+            Numeral::Value(y) => {
+                if area {
+                    return Request::SetArea { w: x, h: y };
+                }
+                Request::AskSquare { x: x, y: y }
+            }
+            Numeral::NoNumber => Request::Refused(Refusal::NotANumber),
+        },
+        Numeral::NoNumber => Request::Refused(Refusal::NotANumber),
+    }
+}
+
+// What a line of two fields asks.
+fn two_fields(word: &[u8], a: &[u8]) -> Request
+    ensures { λ r. ⌜ r ≡ two-fields (now (word .entry)) (now (a .entry)) ⌝ }
+{
+    if is_letter(word, 78) {
+        return with_one(a);
+    }
+    Request::Refused(Refusal::WrongShape)
+}
+
+// What a line of three fields asks.
+fn three_fields(word: &[u8], a: &[u8], b: &[u8]) -> Request
+    ensures { λ r. ⌜ r ≡ three-fields (now (word .entry)) (now (a .entry)) (now (b .entry)) ⌝ }
+{
+    if is_area(word) {
+        return with_two(a, b, true);
+    }
+    if is_letter(word, 83) {
+        return with_two(a, b, false);
+    }
+    Request::Refused(Refusal::WrongShape)
+}
+
+// What a line asks whose first three fields, as far as it has them, are a, b and c: the last of them has to end where the line ends.
+fn judge(line: &[u8], a: Field, b: Field, c: Field) -> Request
+    ensures { λ r. ⌜ r ≡ judged (now (line .entry)) a b c ⌝ }
+{
+    if b.end == line.len() {
+        return two_fields(bytes_of(line, a), bytes_of(line, b));
+    }
+    if c.end == line.len() {
+        return three_fields(bytes_of(line, a), bytes_of(line, b), bytes_of(line, c));
+    }
+    Request::Refused(Refusal::WrongShape)
+}
+
+// Takes the fields that any shape can need, one at a time from the left.
+fn read(line: &[u8]) -> Request
+    ensures { λ r. ⌜ r ≡ three-read (now (line .entry)) ⌝ }
+{
+    let r = over(line);
+    let a = taken(r);
+    let r = behind(r, a);
+    let b = taken(r);
+    let r = behind(r, b);
+    let c = taken(r);
+    judge(line, a, b, c)
+}
+
+// What a line asks, whatever its bytes are.
+pub fn request_of(line: &[u8]) -> Request
+    ensures { λ r. ⌜ r ≡ request (now (line .entry)) ⌝ }
+{
+    if 64 < line.len() {
+        return Request::Refused(Refusal::LongLine);
+    }
+    read(line)
+}
