@@ -1,0 +1,47 @@
+-- A reply from a library call's figures, and the clerk behind a line.
+use mathlib.Core.Bool.{Bool, true, false}
+use mathlib.Core.List.{List, [], _∷_}
+use mathlib.Core.Path.{_≡_, refl, sym, ap}
+use Prim.Native.Nat.{ℕ, _*_, _<_}
+use native.Mathlib.Omega.{arith}
+use types.Run.{OneOf, miss}
+use denote.Enum.Declared.{tagOf}
+use borrow.Author.Tests.{ne-eqb}
+use lib.ListN.{length, take, length-take}
+use Rattle.terms.specs.declared.Refusal.{Refusal}
+use Rattle.terms.specs.Terms.{accepted, refusal-number, answered, refused}
+use Rattle.terms.proofs.Laws.{limits, refusal-some}
+use Rattle.division.proofs.Walks.{product-limit}
+use Rattle.curve.specs.Lookups.{finish-square}
+use Rattle.lines.specs.declared.Request.{Request}
+use Rattle.lines.specs.declared.Request.the-variants.{SetArea, AskNumber, AskSquare, Refused}
+use Rattle.lines.proofs.Request.{the-type}
+use Rattle.lines.proofs.Shapes.{other-length}
+use Rattle.lines.specs.Lines.{AREA}
+use Rattle.clerk.specs.declared.Clerk.the-variants.{NoArea}
+use Rattle.clerk.specs.Clerk as spec
+
+pub told-refused : (word : spec.Word) (first : List ℕ) (r : Refusal) (n : ℕ) → spec.says spec.Refused (refusal-number r ∷ []) ≡ spec.told word first (refused r n)
+told-refused word first r n = sym (rw (ne-eqb (refusal-number r) 0 (refusal-some r)))
+
+-- a finish square is found under an accepted area, whose squares are a 32-bit number
+pub found-fits : (w h x y : ℕ) → answered (x ∷ y ∷ []) ≡ finish-square w h → w * h < 4294967296
+unfolding finish-square
+found-fits w h x y e = by (accepted w h) refl
+  where
+    by : (t : Bool) → accepted w h ≡ t → w * h < 4294967296
+    by true ok = let all = limits w h ok in product-limit w h (all .w-most) (all .h-most)
+    by false bad =
+        let is : finish-square w h .refusal ≡ 1 = rw bad refl in
+        let found : 0 ≡ finish-square w h .refusal = ap (λ f. f .refusal) e in
+        absurd (omega arith)
+
+-- a line that begins with AREA and sets no area
+pub none-set : (q : Request) → OneOf (1 ∷ 2 ∷ 3 ∷ []) (tagOf the-type q) → NoArea ≡ spec.set-by q
+none-set (SetArea w h) k = absurd (miss (1 ∷ 2 ∷ 3 ∷ []) 0 tt k)
+none-set (AskNumber i) k = refl
+none-set (AskSquare x y) k = refl
+none-set (Refused r) k = refl
+
+pub too-short : (line : List ℕ) → length line < 4 → false ≡ spec.begins-area line
+too-short line l = sym (other-length (take 4 line) AREA (λ e. let size = length-take 4 line in omega arith))

@@ -1,0 +1,81 @@
+-- What the clerk's promise comes to: two replies that meet it are one, the first 65 bytes of a line decide, and a clerk that repeats its first answer is
+-- turned away.
+use mathlib.Core.Bool.{Bool, true, false, cond}
+use mathlib.Core.List.{List, [], _∷_}
+use mathlib.Core.Path.{_≡_, refl, ap, ap₂}
+use Prim.Native.Nat.{ℕ, _≤_}
+use native.Mathlib.Omega.{arith}
+use borrow.Author.Tests.{lt-leb, leb-true, leb-false}
+use lib.Dec.{leb, lit≤}
+use lib.ListN.{length, getD, take, length-take}
+use lib.Seq.{take-take, take-all}
+use Rattle.terms.proofs.Laws.{refusal-one}
+use Rattle.lines.specs.Lines.{fields, all-digits, value-on, is-number, numeral, AREA, same-bytes, shaped, request}
+use Rattle.clerk.specs.declared.Clerk.{Clerk}
+use Rattle.clerk.specs.declared.Clerk.the-variants.{NoArea}
+use Rattle.clerk.specs.declared.Reply.{Reply}
+use Rattle.clerk.specs.declared.Reply.the-variants.{AreaSet, Cell, Number, Refused}
+use Rattle.clerk.specs.Clerk as spec
+
+-- the i-th number of a reply
+abbrev value : ℕ → spec.Said → ℕ
+value i s = getD (s .numbers) i 0
+
+-- a word as a number, to tell two apart
+abbrev word-mark : spec.Word → ℕ
+word-mark spec.Area-set = 0
+word-mark spec.Cell = 1
+word-mark spec.Number = 2
+word-mark spec.Refused = 3
+
+abbrev mark : spec.Said → ℕ
+mark s = word-mark (s .word)
+
+-- Two replies that meet a promise are one.
+pub reply-one : (r s : Reply) → spec.said r ≡ spec.said s → r ≡ s
+reply-one (AreaSet a0 a1 a2 a3 a4) (AreaSet b0 b1 b2 b3 b4) e = λ i. AreaSet (value 0 (e i)) (value 1 (e i)) (value 2 (e i)) (value 3 (e i)) (value 4 (e i))
+reply-one (AreaSet a0 a1 a2 a3 a4) (Cell b0 b1 b2) e = let other : _≡_ {A = ℕ} 0 1 = ap mark e in absurd (omega arith)
+reply-one (AreaSet a0 a1 a2 a3 a4) (Number b0 b1) e = let other : _≡_ {A = ℕ} 0 2 = ap mark e in absurd (omega arith)
+reply-one (AreaSet a0 a1 a2 a3 a4) (Refused b0) e = let other : _≡_ {A = ℕ} 0 3 = ap mark e in absurd (omega arith)
+reply-one (Cell a0 a1 a2) (AreaSet b0 b1 b2 b3 b4) e = let other : _≡_ {A = ℕ} 1 0 = ap mark e in absurd (omega arith)
+reply-one (Cell a0 a1 a2) (Cell b0 b1 b2) e = λ i. Cell (value 0 (e i)) (value 1 (e i)) (value 2 (e i))
+reply-one (Cell a0 a1 a2) (Number b0 b1) e = let other : _≡_ {A = ℕ} 1 2 = ap mark e in absurd (omega arith)
+reply-one (Cell a0 a1 a2) (Refused b0) e = let other : _≡_ {A = ℕ} 1 3 = ap mark e in absurd (omega arith)
+reply-one (Number a0 a1) (AreaSet b0 b1 b2 b3 b4) e = let other : _≡_ {A = ℕ} 2 0 = ap mark e in absurd (omega arith)
+reply-one (Number a0 a1) (Cell b0 b1 b2) e = let other : _≡_ {A = ℕ} 2 1 = ap mark e in absurd (omega arith)
+reply-one (Number a0 a1) (Number b0 b1) e = λ i. Number (value 0 (e i)) (value 1 (e i))
+reply-one (Number a0 a1) (Refused b0) e = let other : _≡_ {A = ℕ} 2 3 = ap mark e in absurd (omega arith)
+reply-one (Refused a0) (AreaSet b0 b1 b2 b3 b4) e = let other : _≡_ {A = ℕ} 3 0 = ap mark e in absurd (omega arith)
+reply-one (Refused a0) (Cell b0 b1 b2) e = let other : _≡_ {A = ℕ} 3 1 = ap mark e in absurd (omega arith)
+reply-one (Refused a0) (Number b0 b1) e = let other : _≡_ {A = ℕ} 3 2 = ap mark e in absurd (omega arith)
+reply-one (Refused r) (Refused s) e = ap Refused (refusal-one r s (ap (value 0) e))
+
+-- A line's first 65 bytes decide: what lies beyond them need not be kept.
+module _ (line : List ℕ) where
+  request-by : (t : Bool) → leb (length line) 65 ≡ t → request (take 65 line) ≡ request line
+  unfolding request
+  request-by true e = ap request (take-all 65 line (leb-true (length line) 65 e))
+  request-by false e =
+      let long = leb-false (length line) 65 e in
+      let size = length-take 65 line in
+      rw (lt-leb (length (take 65 line)) 64 (omega arith), lt-leb (length line) 64 (omega arith)) refl
+
+  request-kept : request (take 65 line) ≡ request line
+  request-kept = request-by (leb (length line) 65) refl
+
+  pub reply-kept : (clerk : Clerk) → spec.reply clerk (take 65 line) ≡ spec.reply clerk line
+  unfolding spec.reply
+  reply-kept clerk = ap (spec.due clerk) request-kept
+
+  pub after-kept : (clerk : Clerk) → spec.after clerk (take 65 line) ≡ spec.after clerk line
+  unfolding spec.after
+  after-kept clerk =
+      ap₂ (λ first q. cond (same-bytes first AREA) (spec.set-by q) clerk) (take-take 4 65 line (lit≤ tt)) request-kept
+
+-- Turned away: a clerk that gives every line its first answer. An empty line is refusal 6, and N 1 with no area 7.
+pub repeats-one-answer : (always : spec.Said) → ((clerk : Clerk) (line : List ℕ) → always ≡ spec.reply clerk line) → ⊥
+unfolding spec.reply request shaped fields same-bytes numeral is-number all-digits value-on
+repeats-one-answer always promise =
+    let six : value 0 always ≡ 6 = ap (value 0) (promise NoArea []) in
+    let seven : value 0 always ≡ 7 = ap (value 0) (promise NoArea (78 ∷ 32 ∷ 49 ∷ [])) in
+    omega arith

@@ -1,0 +1,32 @@
+-- `clerk::area_set` meets its contract: a found finish square says that the area is accepted.
+use borrow.Author.Needs.{needs}
+use mathlib.Core.Path.{sym, ap, _∙_}
+use mathlib.Core.List.{[], _∷_}
+use Prim.Native.Nat.{_*_}
+use Rattle.curve.specs.Lookups.{finish-figures}
+use Rattle.clerk.specs.Clerk.{Area-set, told}
+use Rattle.clerk.proofs.Handling.{told-refused, found-fits}
+use Rattle.clerk.proofs.area_set.Statement.{statement}
+use Rattle.clerk.proofs.area_set.Tie as tie
+
+finish-square-requires : tie.Need-finish-square-requires
+finish-square-requires c κs = search needs
+
+enum-known-x : tie.Need-enum-known-x
+enum-known-x c = search needs
+
+mul-t9 : tie.Need-mul-t9
+mul-t9 c = record { fits = found-fits (c .before .before .before .before .args .w) (c .before .before .before .before .args .h) (c .before .x .given .0 .0) (c .before .x .given .0 .1 .0) (ap finish-figures (sym (c .before .x .given .1)) ∙ c .before .before .before .finish-square .ensures) }
+
+enum-known-r : tie.Need-enum-known-r
+enum-known-r c = search needs
+
+returns : tie.Need-returns
+returns c = ap (told Area-set (c .before .before .before .before .args .w ∷ c .before .before .before .before .args .h ∷ (c .before .before .before .before .args .w * c .before .before .before .before .args .h) ∷ [])) (ap finish-figures (sym (c .before .x .given .1)) ∙ c .before .before .before .finish-square .ensures)
+
+returns-2 : tie.Need-returns-2
+returns-2 c = told-refused Area-set (c .before .before .before .before .args .w ∷ c .before .before .before .before .args .h ∷ (c .before .before .before .before .args .w * c .before .before .before .before .args .h) ∷ []) (c .before .r .given .0 .0) 2 ∙ ap (told Area-set (c .before .before .before .before .args .w ∷ c .before .before .before .before .args .h ∷ (c .before .before .before .before .args .w * c .before .before .before .before .args .h) ∷ [])) (ap finish-figures (sym (c .before .r .given .1)) ∙ c .before .before .before .finish-square .ensures)
+
+pub area-set-spec : {M : Type 1} → statement M
+area-set-spec =
+    tie.close (tie.spec finish-square-requires enum-known-x mul-t9 enum-known-r returns returns-2)

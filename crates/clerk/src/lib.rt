@@ -1,0 +1,159 @@
+// The order clerk: the area in force; a line in, a reply out.
+use curve::FinishAnswer;
+use curve::NumberAnswer;
+use curve::SquareAnswer;
+use lines::Request;
+use terms::Area;
+use terms::Refusal;
+ghost use mathlib.Core.Bool.{cond};
+ghost use mathlib.Core.List.{[], _∷_};
+ghost use mathlib.Core.Path.{_≡_};
+ghost use Prim.Native.Nat.{_*_};
+ghost use Rattle.curve.specs.Lookups.{number-to-square, square-to-number, finish-square};
+ghost use Rattle.lines.specs.Lines.{request};
+ghost use Rattle.clerk.specs.Clerk.{Area-set, Cell, Number, said, told, due, begins-area, set-by, after, reply};
+
+// The area in force, if there is one.
+pub enum Clerk {
+    NoArea,
+    InForce(Area),
+}
+
+// What a line is answered.
+pub enum Reply {
+    AreaSet {
+        w: u32,
+        h: u32,
+        squares: u32,
+        x: u32,
+        y: u32,
+    },
+    Cell {
+        x: u32,
+        y: u32,
+        blocks: u32,
+    },
+    Number {
+        number: u32,
+        blocks: u32,
+    },
+    Refused(Refusal),
+}
+
+// The clerk behind a line, and the reply to it.
+pub struct Handled {
+    pub clerk: Clerk,
+    pub reply: Reply,
+}
+
+// Whether a line's first four bytes are AREA.
+fn begins_with_area(line: &[u8]) -> bool
+    ensures { λ r. ⌜ r ≡ begins-area (now (line .entry)) ⌝ }
+{
+    if line.len() < 4 {
+        return false;
+    }
+    lines::is_area(&line[..4])
+}
+
+// The reply to an AREA line.
+fn area_set(w: u32, h: u32) -> Reply
+    ensures { λ r. ⌜ said r ≡ told Area-set (w ∷ h ∷ (w * h) ∷ []) (finish-square w h) ⌝ }
+{
+    match curve::finish_square(Area { w: w, h: h }) {
+        FinishAnswer::Found { x, y } => Reply::AreaSet {
+            w: w,
+            h: h,
+            squares: w * h,
+            x: x,
+            y: y,
+        },
+        FinishAnswer::Refused(r) => Reply::Refused(r),
+    }
+}
+
+// The reply to an N line under an area.
+fn cell(area: Area, i: u32) -> Reply
+    ensures { λ r. ⌜ said r ≡ told Cell [] (number-to-square (area .w) (area .h) i) ⌝ }
+{
+    match curve::number_to_square(area, i) {
+        SquareAnswer::Found { x, y, blocks } => Reply::Cell {
+            x: x,
+            y: y,
+            blocks: blocks,
+        },
+        SquareAnswer::Refused(r) => Reply::Refused(r),
+    }
+}
+
+// The reply to an S line under an area.
+fn number(area: Area, x: u32, y: u32) -> Reply
+    ensures { λ r. ⌜ said r ≡ told Number [] (square-to-number (area .w) (area .h) x y) ⌝ }
+{
+    match curve::square_to_number(area, x, y) {
+        NumberAnswer::Found { number, blocks } => Reply::Number {
+            number: number,
+            blocks: blocks,
+        },
+        NumberAnswer::Refused(r) => Reply::Refused(r),
+    }
+}
+
+// The reply to a request: an area is asked for where the request needs one.
+fn reply_to(clerk: Clerk, asked: Request) -> Reply
+    ensures { λ r. ⌜ said r ≡ due clerk asked ⌝ }
+{
+    match asked {
+        Request::SetArea { w, h } => area_set(w, h),
+        Request::AskNumber { i } => match clerk {
+            Clerk::NoArea => Reply::Refused(Refusal::NoArea),
+            Clerk::InForce(area) => cell(area, i),
+        },
+        Request::AskSquare { x, y } => match clerk {
+            Clerk::NoArea => Reply::Refused(Refusal::NoArea),
+            Clerk::InForce(area) => number(area, x, y),
+        },
+        Request::Refused(r) => Reply::Refused(r),
+    }
+}
+
+// The clerk behind a line that begins with AREA.
+fn clerk_set(asked: Request) -> Clerk
+    ensures { λ r. ⌜ r ≡ set-by asked ⌝ }
+{
+    match asked {
+        Request::SetArea { w, h } => {
+            let area = Area { w: w, h: h };
+            if terms::accepts(area) {
+                return Clerk::InForce(area);
+            }
+            Clerk::NoArea
+        }
+        _ => Clerk::NoArea,
+    }
+}
+
+// The clerk behind any line.
+fn clerk_after(clerk: Clerk, line: &[u8], asked: Request) -> Clerk
+    ensures { λ r. ⌜ r ≡ cond (begins-area (now (line .entry))) (set-by asked) clerk ⌝ }
+{
+    if begins_with_area(line) {
+        return clerk_set(asked);
+    }
+    clerk
+}
+
+impl Clerk {
+    // Takes a line, and hands the clerk back with the reply.
+    pub fn handle(self, line: &[u8]) -> Handled
+        ensures { λ r. ⌜ (r .clerk ≡ after self (now (line .entry))) × (said (r .reply) ≡ reply self (now (line .entry))) ⌝ }
+    {
+        let asked = lines::request_of(line);
+        let reply = reply_to(self, asked);
+        let clerk = clerk_after(self, line, asked);
+        Handled {
+            clerk: clerk,
+            reply: reply,
+        }
+    }
+}
