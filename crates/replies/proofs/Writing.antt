@@ -1,0 +1,113 @@
+-- Bytes written one behind the other, and the digits of a number: the digits before the last are those of the tenth part.
+use mathlib.Core.Bool.{Bool, true, false, cond}
+use mathlib.Core.List.{List, [], _∷_, _++_}
+use mathlib.Core.Path.{_≡_, refl, sym, ap, ap₂, _∙_}
+use Prim.Native.Nat.{ℕ, zero, suc, _+_, _-_, _/_, _%_, _≤_, _<_, _^_}
+use native.Mathlib.Nat.{add-zero}
+use native.Mathlib.Omega.{arith}
+use borrow.Author.Tests.{ltb-true, ltb-false, lt-ltb, le-ltb, leb-true, leb-false, le-leb, lt-leb}
+use lib.Dec.{leb, ltb}
+use lib.ListN.{length, length-append, getD, take, set}
+use lib.Seq.{sets, length-sets, take-suc, take-length}
+use Rattle.replies.specs.Text.{decimal-by, decimal, Writes, if-room}
+
+sets-append : (t : List ℕ) (i : ℕ) (xs ys : List ℕ) → sets t i (xs ++ ys) ≡ sets (sets t i xs) (i + length xs) ys
+sets-append t i [] ys = ap (λ n. sets t n ys) (sym (add-zero i))
+sets-append t i (x ∷ xs) ys =
+    let on : suc i + length xs ≡ i + suc (length xs) = omega arith in
+    sets-append (set t i x) (suc i) xs ys ∙ ap (λ n. sets (sets (set t i x) (suc i) xs) n ys) on
+
+-- one piece of text behind another
+pub writes-both : {t t′ t″ xs ys : List ℕ} {i m n : ℕ} → Writes t i xs t′ m → Writes t′ m ys t″ n → Writes t i (xs ++ ys) t″ n
+writes-both {t} {t′} {t″} {xs} {ys} {i} first second =
+    let all = length-append xs ys in
+    let here = first .behind in
+    let there = second .behind in
+    record {
+      written = second .written ∙ ap₂ (λ s k. sets s k ys) (first .written) (first .behind) ∙ sym (sets-append t i xs ys);
+      behind = omega arith;
+    }
+
+pub writes-byte : (t : List ℕ) (i b : ℕ) → Writes t i (b ∷ []) (set t i b) (i + 1)
+writes-byte t i b = record { written = refl; behind = refl }
+
+-- the digits of a number
+tenth : (n steps : ℕ) → n ≤ suc steps → n / 10 ≤ steps
+tenth n steps l = omega arith
+
+same-digits : (s t n : ℕ) → n ≤ s → n ≤ t → decimal-by s n ≡ decimal-by t n
+unfolding decimal-by
+same-digits zero zero n l m = refl
+same-digits zero (suc t) n l m = let none : n ≡ 0 = omega arith in rw none refl
+same-digits (suc s) zero n l m = let none : n ≡ 0 = omega arith in rw none refl
+same-digits (suc s) (suc t) n l m =
+    ap (λ ds. cond (ltb n 10) ((48 + n) ∷ []) (ds ++ ((48 + n % 10) ∷ []))) (same-digits s t (n / 10) (tenth n s l) (tenth n t m))
+
+pub one-digit : (n : ℕ) → n < 10 → decimal n ≡ (48 + n) ∷ []
+unfolding decimal decimal-by
+one-digit zero l = refl
+one-digit (suc n) l = rw (lt-ltb (suc n) 10 l)
+
+pub more-digits : (n : ℕ) → 10 ≤ n → decimal n ≡ decimal (n / 10) ++ ((48 + n % 10) ∷ [])
+unfolding decimal decimal-by
+more-digits zero l = absurd (omega arith)
+more-digits (suc n) l =
+    rw (le-ltb (suc n) 10 l)
+    (ap (λ ds. ds ++ ((48 + suc n % 10) ∷ [])) (same-digits n (suc n / 10) (suc n / 10) (tenth (suc n) n (omega arith)) (omega arith)))
+
+pub digits-more : (n : ℕ) → 10 ≤ n → length (decimal n) ≡ length (decimal (n / 10)) + 1
+digits-more n l = ap length (more-digits n l) ∙ length-append (decimal (n / 10)) ((48 + n % 10) ∷ [])
+
+-- what is written leaves the buffer its length
+pub writes-length : {t t′ xs : List ℕ} {i n : ℕ} → Writes t i xs t′ n → length t′ ≡ length t
+writes-length {t} {t′} {xs} {i} w = ap length (w .written) ∙ length-sets t i xs
+
+-- the next byte of those that are copied
+pub writes-next : {t t′ : List ℕ} {at : ℕ} (s : List ℕ) (i : ℕ) → i < length s → Writes t at (take i s) t′ (at + i)
+    → Writes t at (take (i + 1) s) (set t′ (at + i) (getD s i 0)) (at + (i + 1))
+writes-next {t} {t′} {at} s i l w =
+    let on : i + 1 ≡ suc i = omega arith in
+    let both = writes-both w (writes-byte t′ (at + i) (getD s i 0)) in
+    let more : take (i + 1) s ≡ take i s ++ (getD s i 0 ∷ []) = ap (λ n. take n s) on ∙ take-suc s i 0 l in
+    record {
+      written = both .written ∙ ap (sets t at) (sym more);
+      behind = let all = both .behind in let same = ap length more in omega arith;
+    }
+
+pub writes-all : {t t′ : List ℕ} {at : ℕ} (s : List ℕ) (i : ℕ) → i ≡ length s → Writes t at (take i s) t′ (at + i) → Writes t at s t′ (at + length s)
+writes-all {t} {t′} {at} s i e w =
+    record { written = w .written ∙ ap (sets t at) (ap (λ n. take n s) e ∙ take-length s); behind = refl }
+
+-- a buffer's text with nothing more
+pub writes-none : (t : List ℕ) (i : ℕ) → Writes t i [] t i
+writes-none t i = record { written = refl; behind = sym (add-zero i) }
+
+-- a 32-bit number has at most ten digits
+few-digits : (k n : ℕ) → n < 10 ^ suc k → length (decimal n) ≤ suc k
+few-digits zero n l = let one = ap length (one-digit n l) in omega arith
+few-digits (suc k) n l = by (ltb n 10) refl (few-digits k (n / 10))
+  where
+    by : (t : Bool) → ltb n 10 ≡ t → (n / 10 < 10 ^ suc k → length (decimal (n / 10)) ≤ suc k) → length (decimal n) ≤ suc (suc k)
+    by true e rest = let one = ap length (one-digit n (ltb-true n 10 e)) in omega arith
+    by false e rest =
+        let more = digits-more n (ltb-false n 10 e) in
+        let few = rest (omega arith) in
+        omega arith
+
+pub ten-digits : (n : ℕ) → n < 4294967296 → length (decimal n) ≤ 10
+ten-digits n l = few-digits 9 n (omega arith)
+
+-- room behind a place, tested without a sum that could be too large
+pub room-is : (at n : ℕ) → at ≤ n → leb 71 (n - at) ≡ leb (at + 71) n
+room-is at n l = by (leb 71 (n - at)) refl
+  where
+    by : (t : Bool) → leb 71 (n - at) ≡ t → leb 71 (n - at) ≡ leb (at + 71) n
+    by true e = e ∙ sym (le-leb (at + 71) n (let room = leb-true 71 (n - at) e in omega arith))
+    by false e = e ∙ sym (lt-leb (at + 71) n (let none = leb-false 71 (n - at) e in omega arith))
+
+-- what is written where there is room, and where there is none
+pub with-room : {t t′ : List ℕ} {at end : ℕ} (bytes : List ℕ) → leb (at + 71) (length t) ≡ true → Writes t at bytes t′ end → Writes t at (if-room t at bytes) t′ end
+with-room bytes e w = rw e w
+
+pub no-room : (t : List ℕ) (at : ℕ) (bytes : List ℕ) → leb (at + 71) (length t) ≡ false → Writes t at (if-room t at bytes) t at
+no-room t at bytes e = rw e (writes-none t at)

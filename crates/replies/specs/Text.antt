@@ -1,0 +1,55 @@
+-- A reply as text: document 01, "prints for each line its number from 1, a space, and one of: AREA w h n fx fy; CELL x y k; NUMBER i k; REFUSED r", and
+-- "65536 STOP".
+use mathlib.Core.Bool.{cond}
+use mathlib.Core.List.{List, [], _∷_, _++_}
+use mathlib.Core.Path.{_≡_}
+use Prim.Native.Nat.{ℕ, zero, suc, _+_, _/_, _%_}
+use lib.Dec.{leb, ltb}
+use lib.ListN.{length}
+use lib.Seq.{sets}
+use Rattle.clerk.specs.Clerk as Clerks
+
+-- A number in decimal, as bytes. A number has no more digits than it counts, so that it bounds the steps.
+unfoldable pub decimal-by : (steps n : ℕ) → List ℕ
+decimal-by zero n = (48 + n) ∷ []
+decimal-by (suc steps) n = cond (ltb n 10) ((48 + n) ∷ []) (decimal-by steps (n / 10) ++ ((48 + n % 10) ∷ []))
+
+unfoldable pub decimal : ℕ → List ℕ
+decimal n = decimal-by n n
+
+abbrev pub spaced : ℕ → List ℕ
+spaced n = 32 ∷ decimal n
+
+abbrev pub all-spaced : List ℕ → List ℕ
+all-spaced [] = []
+all-spaced (n ∷ ns) = spaced n ++ all-spaced ns
+
+-- A space and the word: AREA, CELL, NUMBER, REFUSED.
+abbrev pub spaced-word : Clerks.Word → List ℕ
+spaced-word Clerks.Area-set = 32 ∷ 65 ∷ 82 ∷ 69 ∷ 65 ∷ []
+spaced-word Clerks.Cell = 32 ∷ 67 ∷ 69 ∷ 76 ∷ 76 ∷ []
+spaced-word Clerks.Number = 32 ∷ 78 ∷ 85 ∷ 77 ∷ 66 ∷ 69 ∷ 82 ∷ []
+spaced-word Clerks.Refused = 32 ∷ 82 ∷ 69 ∷ 70 ∷ 85 ∷ 83 ∷ 69 ∷ 68 ∷ []
+
+abbrev pub body : Clerks.Said → List ℕ
+body s = spaced-word (s .word) ++ all-spaced (s .numbers)
+
+-- The text of a reply to a line, by its number, up to the newline; and that of a line after which none is read.
+unfoldable pub text : (line : ℕ) → Clerks.Said → List ℕ
+text line s = decimal line ++ (body s ++ (10 ∷ []))
+
+unfoldable pub stop : (line : ℕ) → List ℕ
+stop line = decimal line ++ (32 ∷ 83 ∷ 84 ∷ 79 ∷ 80 ∷ 10 ∷ [])
+
+-- No text of a 32-bit line number and 32-bit numbers is longer than this.
+abbrev pub longest : ℕ
+longest = 71
+
+-- A buffer with bytes written at a place, and the place behind them.
+pub record Writes (before : List ℕ) (at : ℕ) (bytes after : List ℕ) (end : ℕ) : Type 0 where
+  pub written : after ≡ sets before at bytes
+  pub behind : end ≡ at + length bytes
+
+-- What a call that may have no room for the longest text leaves, and the place behind it.
+abbrev pub if-room : (buffer : List ℕ) (at : ℕ) → List ℕ → List ℕ
+if-room buffer at bytes = cond (leb (at + longest) (length buffer)) bytes []
