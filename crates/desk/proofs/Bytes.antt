@@ -1,0 +1,57 @@
+-- What is written where nothing is printed, and the tests of a desk.
+use mathlib.Core.Bool.{Bool, true, false, cond, and-eq-true-iff}
+use mathlib.Core.List.{List, []}
+use mathlib.Core.Path.{_≡_, sym, subst}
+use Prim.Native.Nat.{ℕ, _+_, _≤_, _<_}
+use borrow.Author.Tests.{leb-true, le-leb, lt-ltb, le-ltb, eq-eqb, ne-eqb}
+use lib.Dec.{leb}
+use lib.ListN.{length}
+use Rattle.clerk.specs.Clerk.{reply}
+use Rattle.replies.specs.Text.{text, stop, Writes, if-room}
+use Rattle.replies.proofs.Writing.{writes-none}
+use Rattle.desk.specs.declared.Desk.{Desk}
+use Rattle.desk.specs.Steps.{begun-line, stopped, answered, longer, with-byte, next-desk, next-kept, prints, in-order}
+
+pub writes-nothing : (t : List ℕ) (at : ℕ) (p q : Bool) → Writes t at (cond p (cond q [] []) []) t at
+writes-nothing t at true true = writes-none t at
+writes-nothing t at true false = writes-none t at
+writes-nothing t at false q = writes-none t at
+
+-- where there is room, all is written
+pub all-written : {t t′ : List ℕ} {at end : ℕ} (bytes : List ℕ) → at + 71 ≤ length t → Writes t at (if-room t at bytes) t′ end → Writes t at bytes t′ end
+all-written {t} {t′} {at} {end} bytes room w = subst (λ (bs : List ℕ). Writes t at bs t′ end) (rw (le-leb (at + 71) (length t) room)) w
+
+-- a desk that is in order
+pub ordered : (d : Desk) (kept : List ℕ) → in-order d kept ≡ true → (d .begun ≤ 65) × (65 ≤ length kept)
+ordered d kept e =
+    let both = and-eq-true-iff (leb (d .begun) 65) (leb 65 (length kept)) .0 e in
+    (leb-true (d .begun) 65 (both .0), leb-true 65 (length kept) (both .1))
+
+-- a byte, case by case
+module _ (d : Desk) (kept : List ℕ) (b : ℕ) where
+  abbrev Next : Desk → List ℕ → List ℕ → Type 0
+  Next d′ kept′ printed = (d′ ≡ next-desk d kept b) × (kept′ ≡ next-kept d kept b) × (printed ≡ prints d kept b)
+
+  pub when-over : d .over ≡ true → Next d kept []
+  when-over o = (sym (rw o), sym (rw o), sym (rw o))
+
+  module _ (o : d .over ≡ false) where
+    pub at-the-stop : 65535 < d .line → Next (stopped d) kept (stop (d .line))
+    at-the-stop l = let past = lt-ltb 65535 (d .line) l in (sym (rw (o, past)), sym (rw (o, past)), sym (rw (o, past)))
+
+    module _ (l : d .line ≤ 65535) where
+      pub at-a-newline : b ≡ 10 → Next (answered d kept) kept (text (d .line) (reply (d .clerk) (begun-line d kept)))
+      at-a-newline e =
+          let more = le-ltb 65535 (d .line) l in
+          let newline = eq-eqb b 10 e in
+          (sym (rw (o, more, newline)), sym (rw (o, more, newline)), sym (rw (o, more, newline)))
+
+      pub at-a-byte : (b ≡ 10 → ⊥) → Next (longer d) (with-byte d kept b) []
+      at-a-byte e =
+          let more = le-ltb 65535 (d .line) l in
+          let other = ne-eqb b 10 e in
+          (sym (rw (o, more, other)), sym (rw (o, more, other)), sym (rw (o, more, other)))
+
+-- what was written, put another way
+pub writes-as : {t t′ xs ys : List ℕ} {at end : ℕ} → xs ≡ ys → Writes t at xs t′ end → Writes t at ys t′ end
+writes-as {t} {t′} {at = at} {end} e w = subst (λ (bs : List ℕ). Writes t at bs t′ end) e w

@@ -1,0 +1,46 @@
+-- For a program over the desk: a desk that is in order stays so, and takes at least a byte of what it is fed where there is room.
+use mathlib.Core.Bool.{Bool, true, false, cond}
+use mathlib.Core.List.{List, [], _∷_}
+use mathlib.Core.Path.{_≡_, refl, ap, ap₂, _∙_}
+use Prim.Native.Nat.{ℕ, _+_, _≤_, _<_}
+use native.Mathlib.Omega.{arith}
+use borrow.Author.Tests.{le-leb}
+use lib.Dec.{leb, ltb, eqb}
+use lib.ListN.{length, drop}
+use Rattle.desk.specs.declared.Desk.{Desk}
+use Rattle.desk.specs.Steps.{next-desk, next-kept, prints, Result, still, onward, fed, in-order, fed-any, Feeds}
+use Rattle.desk.proofs.Bytes.{ordered}
+use Rattle.desk.proofs.Feeding.{still-ordered, fed-byte, kept-length}
+
+in-order-is : (d : Desk) (kept : List ℕ) → d .begun ≤ 65 → 65 ≤ length kept → in-order d kept ≡ true
+in-order-is d kept l m = rw (le-leb (d .begun) 65 l, le-leb 65 (length kept) m) refl
+
+fed-ordered : (d : Desk) (kept : List ℕ) (at size : ℕ) (bytes : List ℕ) → d .begun ≤ 65 → 65 ≤ length kept
+    → in-order (fed d kept at size bytes .desk) (fed d kept at size bytes .kept) ≡ true
+unfolding fed
+fed-ordered d kept at size [] l m = in-order-is d kept l m
+fed-ordered d kept at size (b ∷ bs) l m =
+    by (leb (at + 71) size)
+    (fed-ordered (next-desk d kept b) (next-kept d kept b) (at + length (prints d kept b)) size bs (still-ordered d kept b l)
+    (let same = kept-length d kept b (d .over) (ltb 65535 (d .line)) (eqb b 10) (ltb 64 (d .begun)) in omega arith))
+  where
+    by : (t : Bool) → (let r = fed (next-desk d kept b) (next-kept d kept b) (at + length (prints d kept b)) size bs in in-order (r .desk) (r .kept) ≡ true)
+        → (let r = cond t (onward (prints d kept b) (fed (next-desk d kept b) (next-kept d kept b) (at + length (prints d kept b)) size bs)) (still d kept) in in-order (r .desk) (r .kept) ≡ true)
+    by true next = next
+    by false next = in-order-is d kept l m
+
+module _ (d : Desk) (kept : List ℕ) (ok : in-order d kept ≡ true) (at size from : ℕ) (chunk : List ℕ) {out : List ℕ} {d′ : Desk} {kept′ : List ℕ} {next : ℕ} {written : List ℕ} {end : ℕ}
+    (f : Feeds (fed-any d kept at size (drop from chunk)) from out at d′ kept′ next written end) where
+  is-fed : fed-any d kept at size (drop from chunk) ≡ fed d kept at size (drop from chunk)
+  is-fed = rw ok
+
+  pub stays-in-order : in-order d′ kept′ ≡ true
+  stays-in-order =
+      let both = ordered d kept ok in
+      ap₂ in-order (f .desk-is ∙ ap (λ (r : Result). r .desk) is-fed) (f .kept-is ∙ ap (λ (r : Result). r .kept) is-fed)
+      ∙ fed-ordered d kept at size (drop from chunk) (both .0) (both .1)
+
+  pub goes-on : at + 71 ≤ size → from < length chunk → from < next
+  goes-on room l =
+      let taken = f .next-is ∙ ap (λ (r : Result). from + r .taken) (is-fed ∙ fed-byte d kept at size chunk from l (le-leb (at + 71) size room)) in
+      omega arith

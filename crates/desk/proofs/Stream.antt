@@ -1,0 +1,235 @@
+-- What a desk prints, byte by byte and piece by piece, is what the definition over the whole input says. At every byte, what is due of the rest of the
+-- input is what the byte prints and what is due behind it.
+use mathlib.Core.Bool.{Bool, true, false, cond}
+use mathlib.Core.List.{List, [], _∷_, _++_, append-assoc, append-nil}
+use mathlib.Core.Logic.{_⊎_, inl, inr}
+use mathlib.Core.Path.{_≡_, refl, sym, ap, ap₂, _∙_}
+use Prim.Native.Nat.{ℕ, suc, _+_, _≤_, _<_}
+use native.Mathlib.Omega.{arith}
+use borrow.Author.Tests.{ltb-true, ltb-false, le-leb, lt-leb, eqb-true, eqb-false, eq-eqb, ne-eqb}
+use lib.Dec.{leb, ltb, eqb}
+use lib.ListN.{length, take, drop, set}
+use lib.Seq.{take-suc-set, take-append-le, length-take-le}
+use Rattle.lines.specs.Lines.{onto}
+use Rattle.clerk.specs.declared.Clerk.{Clerk}
+use Rattle.clerk.specs.Clerk.{after, reply}
+use Rattle.clerk.proofs.Promises.{reply-kept, after-kept}
+use Rattle.replies.specs.Text.{text, stop}
+use Rattle.desk.specs.declared.Desk.{Desk}
+use Rattle.desk.specs.Desk.{lines-of, answers, output}
+use Rattle.desk.specs.Steps.{begun-line, at-first, stopped, answered, next-desk, next-kept, prints, prints-last, Result, still, onward, fed}
+use Rattle.desk.specs.Runs.{Printed, ended, closed, piece-fed}
+use Rattle.desk.proofs.Feeding.{still-ordered, kept-length}
+use Rattle.desk.proofs.Bytes.{when-over, at-the-stop, at-a-newline, at-a-byte}
+
+-- lines of which the first was begun before
+joined : List ℕ → List (List ℕ) → List (List ℕ)
+joined [] ls = ls
+joined (x ∷ g) [] = (x ∷ g) ∷ []
+joined (x ∷ g) (l ∷ ls) = ((x ∷ g) ++ l) ∷ ls
+
+-- what is due of the rest of an input
+abbrev pending : Desk → (kept : List ℕ) → (rest : List ℕ) → List ℕ
+pending d kept rest = cond (d .over) [] (answers (d .clerk) (d .line) (joined (begun-line d kept) (lines-of rest)))
+
+joined-byte : (g : List ℕ) (b : ℕ) (ls : List (List ℕ)) → joined g (onto b ls) ≡ joined (g ++ (b ∷ [])) ls
+unfolding joined
+joined-byte [] b [] = refl
+joined-byte [] b (l ∷ ls) = refl
+joined-byte (x ∷ g) b [] = refl
+joined-byte (x ∷ g) b (l ∷ ls) = ap (λ zs. zs ∷ ls) (sym (append-assoc (x ∷ g) (b ∷ []) l))
+
+joined-newline : (g : List ℕ) (ls : List (List ℕ)) → joined g ([] ∷ ls) ≡ g ∷ ls
+unfolding joined
+joined-newline [] ls = refl
+joined-newline (x ∷ g) ls = ap (λ zs. zs ∷ ls) (append-nil (x ∷ g))
+
+-- the first 65 bytes of a line decide
+same-answers : (clerk : Clerk) (n : ℕ) (l m : List ℕ) (ls : List (List ℕ)) → take 65 l ≡ take 65 m → answers clerk n (l ∷ ls) ≡ answers clerk n (m ∷ ls)
+unfolding answers
+same-answers clerk n l m ls e =
+    ap₂ (λ s c. cond (leb n 65535) (text n s ++ answers c (n + 1) ls) (stop n))
+    (sym (reply-kept l clerk) ∙ ap (reply clerk) e ∙ reply-kept m clerk)
+    (sym (after-kept l clerk) ∙ ap (after clerk) e ∙ after-kept m clerk)
+
+-- a byte behind the first 65 of a line changes nothing
+long-enough : (clerk : Clerk) (n : ℕ) (g : List ℕ) (b : ℕ) (ls : List (List ℕ)) → length g ≡ 65 → answers clerk n (joined (g ++ (b ∷ [])) ls) ≡ answers clerk n (joined g ls)
+unfolding joined
+long-enough clerk n [] b ls e = absurd (omega arith)
+long-enough clerk n (x ∷ g) b [] e =
+    same-answers clerk n ((x ∷ g) ++ (b ∷ [])) (x ∷ g) []
+    (take-append-le 65 (x ∷ g) (b ∷ []) (omega arith))
+long-enough clerk n (x ∷ g) b (l ∷ ls) e =
+    same-answers clerk n ((x ∷ g) ++ (b ∷ []) ++ l) ((x ∷ g) ++ l) ls
+    (ap (take 65) (append-assoc (x ∷ g) (b ∷ []) l) ∙ take-append-le 65 (x ∷ g) ((b ∷ []) ++ l) (omega arith) ∙ sym (take-append-le 65 (x ∷ g) l (omega arith)))
+
+-- at line 65,536
+past-last : (clerk : Clerk) (n : ℕ) (l : List ℕ) (ls : List (List ℕ)) → 65535 < n → answers clerk n (l ∷ ls) ≡ stop n
+unfolding answers
+past-last clerk n l ls m = rw (lt-leb n 65535 m) refl
+
+past-joined : (clerk : Clerk) (n : ℕ) (g l : List ℕ) (ls : List (List ℕ)) → 65535 < n → answers clerk n (joined g (l ∷ ls)) ≡ stop n
+unfolding joined
+past-joined clerk n [] l ls m = past-last clerk n l ls m
+past-joined clerk n (x ∷ g) l ls m = past-last clerk n ((x ∷ g) ++ l) ls m
+
+past-onto : (clerk : Clerk) (n : ℕ) (g : List ℕ) (b : ℕ) (ls : List (List ℕ)) → 65535 < n → answers clerk n (joined g (onto b ls)) ≡ stop n
+past-onto clerk n g b [] m = past-joined clerk n g (b ∷ []) [] m
+past-onto clerk n g b (l ∷ ls) m = past-joined clerk n g (b ∷ l) ls m
+
+-- one byte
+module _ (d : Desk) (kept : List ℕ) (b : ℕ) (rest : List ℕ) (few : d .begun ≤ 65) (room : 65 ≤ length kept) where
+  abbrev Due : Type 0
+  Due = pending d kept (b ∷ rest) ≡ prints d kept b ++ pending (next-desk d kept b) (next-kept d kept b) rest
+
+  -- what is due behind a byte, in the words of its case
+  due-as : {d′ : Desk} {kept′ printed : List ℕ} → (d′ ≡ next-desk d kept b) × (kept′ ≡ next-kept d kept b) × (printed ≡ prints d kept b)
+      → pending d kept (b ∷ rest) ≡ printed ++ pending d′ kept′ rest → Due
+  due-as is e = e ∙ (λ j. is .2 j ++ pending (is .0 j) (is .1 j) rest)
+
+  byte-over : d .over ≡ true → Due
+  byte-over o = due-as (when-over d kept b o) (rw o refl)
+
+  byte-stop : d .over ≡ false → 65535 < d .line → (t : Bool) → eqb b 10 ≡ t → Due
+  unfolding lines-of
+  byte-stop o l true e =
+      due-as (at-the-stop d kept b o l)
+      (rw (o, e) (past-joined (d .clerk) (d .line) (begun-line d kept) [] (lines-of rest) l ∙ sym (append-nil (stop (d .line)))))
+  byte-stop o l false e =
+      due-as (at-the-stop d kept b o l)
+      (rw (o, e) (past-onto (d .clerk) (d .line) (begun-line d kept) b (lines-of rest) l ∙ sym (append-nil (stop (d .line)))))
+
+  byte-newline : d .over ≡ false → d .line ≤ 65535 → b ≡ 10 → Due
+  unfolding lines-of answers joined
+  byte-newline o l e =
+      due-as (at-a-newline d kept b o l e)
+      (rw (o, eq-eqb b 10 e)
+      (ap (answers (d .clerk) (d .line)) (joined-newline (begun-line d kept) (lines-of rest)) ∙ rw (le-leb (d .line) 65535 l) refl))
+
+  byte-kept : d .over ≡ false → d .line ≤ 65535 → (b ≡ 10 → ⊥) → (t : Bool) → ltb 64 (d .begun) ≡ t → Due
+  unfolding lines-of
+  byte-kept o l e true m =
+      let full = ltb-true 64 (d .begun) m in
+      let all = length-take-le (d .begun) kept (omega arith) in
+      due-as (at-a-byte d kept b o l e)
+      (rw (o, m, ne-eqb b 10 e)
+      (ap (answers (d .clerk) (d .line)) (joined-byte (begun-line d kept) b (lines-of rest))
+      ∙ long-enough (d .clerk) (d .line) (begun-line d kept) b (lines-of rest) (omega arith)))
+  byte-kept o l e false m =
+      let more = ltb-false 64 (d .begun) m in
+      let on : d .begun + 1 ≡ suc (d .begun) = omega arith in
+      due-as (at-a-byte d kept b o l e)
+      (rw (o, m, ne-eqb b 10 e)
+      (ap (answers (d .clerk) (d .line))
+      (joined-byte (begun-line d kept) b (lines-of rest)
+      ∙ ap (λ g. joined g (lines-of rest)) (sym (ap (λ n. take n (set kept (d .begun) b)) on ∙ take-suc-set kept (d .begun) b (omega arith))))))
+
+  -- at every byte, what is due is what it prints and what is due behind it
+  byte-due : Due
+  byte-due = by (d .over) refl
+    where
+      in-line : d .over ≡ false → (t : Bool) → ltb 65535 (d .line) ≡ t → (u : Bool) → eqb b 10 ≡ u → Due
+      in-line o true l u e = byte-stop o (ltb-true 65535 (d .line) l) (eqb b 10) refl
+      in-line o false l true e = byte-newline o (ltb-false 65535 (d .line) l) (eqb-true b 10 e)
+      in-line o false l false e = byte-kept o (ltb-false 65535 (d .line) l) (eqb-false b 10 e) (ltb 64 (d .begun)) refl
+
+      by : (t : Bool) → d .over ≡ t → Due
+      by true o = byte-over o
+      by false o = in-line o (ltb 65535 (d .line)) refl (eqb b 10) refl
+
+-- a desk with a line in hand: it has its place, and it is none past the last
+record In-hand (d : Desk) (kept : List ℕ) : Type 0 where
+  few : d .begun ≤ 65
+  room : 65 ≤ length kept
+  lined : (d .begun ≡ 0) ⊎ (d .line ≤ 65535)
+
+lined-by : (d : Desk) (kept : List ℕ) (o s e f : Bool) → ltb 65535 (d .line) ≡ s → (d .begun ≡ 0) ⊎ (d .line ≤ 65535)
+    → let n = cond o d (cond s (stopped d) (cond e (answered d kept) (cond f d (record { clerk = d .clerk; line = d .line; begun = d .begun + 1; over = false })))) in
+    (n .begun ≡ 0) ⊎ (n .line ≤ 65535)
+lined-by d kept true s e f p l = l
+lined-by d kept false true e f p l = l
+lined-by d kept false false true f p l = inl refl
+lined-by d kept false false false true p l = l
+lined-by d kept false false false false p l = inr (ltb-false 65535 (d .line) p)
+
+in-hand-on : (d : Desk) (kept : List ℕ) (b : ℕ) → In-hand d kept → In-hand (next-desk d kept b) (next-kept d kept b)
+in-hand-on d kept b h =
+    record {
+      few = still-ordered d kept b (h .few);
+      room = let same = kept-length d kept b (d .over) (ltb 65535 (d .line)) (eqb b 10) (ltb 64 (d .begun)) in let all = h .room in omega arith;
+      lined = lined-by d kept (d .over) (ltb 65535 (d .line)) (eqb b 10) (ltb 64 (d .begun)) refl (h .lined);
+    }
+
+-- a piece: what is due is what it printed and what is due of what it left
+abbrev Left : Result → (d : Desk) (kept piece rest : List ℕ) → Type 0
+Left r d kept piece rest = (pending d kept (piece ++ rest) ≡ r .printed ++ pending (r .desk) (r .kept) (drop (r .taken) piece ++ rest)) × In-hand (r .desk) (r .kept)
+
+piece-due : (d : Desk) (kept : List ℕ) (at size : ℕ) (piece rest : List ℕ) → In-hand d kept → Left (fed d kept at size piece) d kept piece rest
+unfolding fed
+piece-due d kept at size [] rest h = (refl, h)
+piece-due d kept at size (b ∷ bs) rest h =
+    by (leb (at + 71) size) (piece-due (next-desk d kept b) (next-kept d kept b) (at + length (prints d kept b)) size bs rest (in-hand-on d kept b h))
+  where
+    by : (t : Bool) → Left (fed (next-desk d kept b) (next-kept d kept b) (at + length (prints d kept b)) size bs) (next-desk d kept b) (next-kept d kept b) bs rest
+        → Left (cond t (onward (prints d kept b) (fed (next-desk d kept b) (next-kept d kept b) (at + length (prints d kept b)) size bs)) (still d kept)) d kept (b ∷ bs) rest
+    by false next = (refl, h)
+    by true next =
+        let r = fed (next-desk d kept b) (next-kept d kept b) (at + length (prints d kept b)) size bs in
+        (byte-due d kept b (bs ++ rest) (h .few) (h .room) ∙ ap (λ zs. prints d kept b ++ zs) (next .0) ∙ sym (append-assoc (prints d kept b) (r .printed) (pending (r .desk) (r .kept) (drop (r .taken) bs ++ rest))), next .1)
+
+-- the end of the input
+nothing-begun : (d : Desk) (kept : List ℕ) → d .begun ≡ 0 → pending d kept [] ≡ prints-last d kept
+unfolding lines-of joined answers
+nothing-begun d kept e = by (d .over)
+  where
+    by : (t : Bool) → cond t [] (answers (d .clerk) (d .line) (joined (begun-line d kept) (lines-of []))) ≡ cond t [] (cond (eqb (d .begun) 0) [] (text (d .line) (reply (d .clerk) (begun-line d kept))))
+    by true = refl
+    by false = rw e refl
+
+one-line : (clerk : Clerk) (n : ℕ) (g : List ℕ) → 1 ≤ length g → n ≤ 65535 → answers clerk n (joined g []) ≡ text n (reply clerk g)
+unfolding answers joined
+one-line clerk n [] l m = absurd (omega arith)
+one-line clerk n (x ∷ g) l m = rw (le-leb n 65535 m) (append-nil (text n (reply clerk (x ∷ g))))
+
+line-begun : (d : Desk) (kept : List ℕ) → In-hand d kept → d .line ≤ 65535 → (t : Bool) → eqb (d .begun) 0 ≡ t → pending d kept [] ≡ prints-last d kept
+unfolding lines-of
+line-begun d kept h l true e = nothing-begun d kept (eqb-true (d .begun) 0 e)
+line-begun d kept h l false e = by (d .over)
+  where
+    some : 1 ≤ length (begun-line d kept)
+    some =
+        let few = h .few in
+        let room = h .room in
+        let size = length-take-le (d .begun) kept (omega arith) in
+        let not-none = eqb-false (d .begun) 0 e in
+        by-size (d .begun) (length (begun-line d kept)) size not-none
+      where
+        by-size : (n m : ℕ) → m ≡ n → (n ≡ 0 → ⊥) → 1 ≤ m
+        by-size n m p q = omega arith
+
+    by : (t : Bool) → cond t [] (answers (d .clerk) (d .line) (joined (begun-line d kept) (lines-of []))) ≡ cond t [] (cond (eqb (d .begun) 0) [] (text (d .line) (reply (d .clerk) (begun-line d kept))))
+    by true = refl
+    by false = one-line (d .clerk) (d .line) (begun-line d kept) some l ∙ sym (rw e)
+
+last-due : (d : Desk) (kept : List ℕ) → In-hand d kept → pending d kept [] ≡ prints-last d kept
+last-due d kept h = by (h .lined)
+  where
+    by : (d .begun ≡ 0) ⊎ (d .line ≤ 65535) → pending d kept [] ≡ prints-last d kept
+    by (inl e) = nothing-begun d kept e
+    by (inr l) = line-begun d kept h l (eqb (d .begun) 0) refl
+
+-- However an input comes, what is printed is what is due of it.
+printed-due : {d : Desk} {kept input printed : List ℕ} → Printed d kept input printed → In-hand d kept → printed ≡ pending d kept input
+printed-due (ended d kept) h = sym (last-due d kept h)
+printed-due (closed d kept input o) h = sym (rw o)
+printed-due (piece-fed d kept at size piece rest printed run) h =
+    let left = piece-due d kept at size piece rest h in
+    ap (λ zs. fed d kept at size piece .printed ++ zs) (printed-due run (left .1)) ∙ sym (left .0)
+
+-- From the first byte on it is what the definition over the whole input says, so it does not depend on how the input was cut.
+pub whole-printed : {kept input printed : List ℕ} → 65 ≤ length kept → Printed at-first kept input printed → printed ≡ output input
+unfolding output joined
+whole-printed room run = printed-due run (record { few = omega arith; room = room; lined = inl refl })
+
+pub however-cut : {kept kept′ input one other : List ℕ} → 65 ≤ length kept → 65 ≤ length kept′ → Printed at-first kept input one → Printed at-first kept′ input other → one ≡ other
+however-cut room room′ run run′ = whole-printed room run ∙ sym (whole-printed room′ run′)

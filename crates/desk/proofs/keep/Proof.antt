@@ -1,0 +1,24 @@
+-- `desk::keep` meets its contract.
+use borrow.Author.Needs.{needs}
+use mathlib.Core.Path.{sym}
+use borrow.Author.Tests.{lt-ltb, le-ltb}
+use Rattle.desk.proofs.keep.Statement.{statement}
+use Rattle.desk.proofs.keep.Tie as tie
+
+returns : tie.Need-returns
+returns c = (sym (rw (lt-ltb 64 (c .before .args .desk .begun) (c .if1 .taken))), sym (rw (lt-ltb 64 (c .before .args .desk .begun) (c .if1 .taken))))
+
+slice-write-kept : tie.Need-slice-write-kept
+slice-write-kept c = search needs
+
+add-t8 : tie.Need-add-t8
+add-t8 c = search needs
+
+same-length : tie.Need-same-length
+same-length c = search needs
+
+returns-2 : tie.Need-returns-2
+returns-2 c = (sym (rw (le-ltb 64 (c .before .args .desk .begun) (c .if1 .left))), sym (rw (le-ltb 64 (c .before .args .desk .begun) (c .if1 .left))))
+
+pub keep-spec : {M : Type 1} → statement M
+keep-spec = tie.close (tie.spec returns slice-write-kept add-t8 same-length returns-2)

@@ -1,0 +1,79 @@
+-- What the desk does at each byte, and at the end of the input: the line that is begun is kept, as far as its first 65 bytes, which decide.
+use mathlib.Core.Bool.{Bool, true, false, cond, _&&_}
+use mathlib.Core.List.{List, [], _∷_, _++_}
+use mathlib.Core.Path.{_≡_}
+use Prim.Native.Nat.{ℕ, suc, _+_}
+use lib.Dec.{leb, ltb, eqb}
+use lib.ListN.{length, take, set}
+use Rattle.clerk.specs.declared.Clerk.the-variants.{NoArea}
+use Rattle.clerk.specs.Clerk.{after, reply}
+use Rattle.replies.specs.Text.{text, stop, longest, Writes}
+use Rattle.desk.specs.declared.Desk.{Desk}
+
+-- The bytes of the line that is begun.
+abbrev pub begun-line : Desk → (kept : List ℕ) → List ℕ
+begun-line d kept = take (d .begun) kept
+
+-- A desk before its first byte.
+abbrev pub at-first : Desk
+at-first = record { clerk = NoArea; line = 1; begun = 0; over = false }
+
+-- The desk behind the first byte of a line 65,536; behind a newline; behind another byte, with what is then kept.
+abbrev pub stopped : Desk → Desk
+stopped d = record { clerk = d .clerk; line = d .line; begun = d .begun; over = true }
+
+abbrev pub answered : Desk → (kept : List ℕ) → Desk
+answered d kept = record { clerk = after (d .clerk) (begun-line d kept); line = d .line + 1; begun = 0; over = false }
+
+abbrev pub longer : Desk → Desk
+longer d = cond (ltb 64 (d .begun)) d (record { clerk = d .clerk; line = d .line; begun = d .begun + 1; over = false })
+
+abbrev pub with-byte : Desk → (kept : List ℕ) → (b : ℕ) → List ℕ
+with-byte d kept b = cond (ltb 64 (d .begun)) kept (set kept (d .begun) b)
+
+-- The desk, what is kept, and what is printed, behind a byte.
+abbrev pub next-desk : Desk → (kept : List ℕ) → (b : ℕ) → Desk
+next-desk d kept b = cond (d .over) d (cond (ltb 65535 (d .line)) (stopped d) (cond (eqb b 10) (answered d kept) (longer d)))
+
+abbrev pub next-kept : Desk → (kept : List ℕ) → (b : ℕ) → List ℕ
+next-kept d kept b = cond (d .over) kept (cond (ltb 65535 (d .line)) kept (cond (eqb b 10) kept (with-byte d kept b)))
+
+abbrev pub prints : Desk → (kept : List ℕ) → (b : ℕ) → List ℕ
+prints d kept b =
+    cond (d .over) [] (cond (ltb 65535 (d .line)) (stop (d .line)) (cond (eqb b 10) (text (d .line) (reply (d .clerk) (begun-line d kept))) []))
+
+-- What is printed at the end of the input.
+abbrev pub prints-last : Desk → (kept : List ℕ) → List ℕ
+prints-last d kept = cond (d .over) [] (cond (eqb (d .begun) 0) [] (text (d .line) (reply (d .clerk) (begun-line d kept))))
+
+-- The bytes of a piece one by one, as long as there is room for the longest text in an output of that size.
+pub record Result : Type 0 where
+  pub desk : Desk
+  pub kept : List ℕ
+  pub taken : ℕ
+  pub printed : List ℕ
+
+abbrev pub still : Desk → List ℕ → Result
+still d kept = record { desk = d; kept = kept; taken = 0; printed = [] }
+
+abbrev pub onward : List ℕ → Result → Result
+onward first r = record { desk = r .desk; kept = r .kept; taken = suc (r .taken); printed = first ++ r .printed }
+
+unfoldable pub fed : Desk → (kept : List ℕ) → (at size : ℕ) → List ℕ → Result
+fed d kept at size [] = still d kept
+fed d kept at size (b ∷ bs) =
+    cond (leb (at + longest) size) (onward (prints d kept b) (fed (next-desk d kept b) (next-kept d kept b) (at + length (prints d kept b)) size bs)) (still d kept)
+
+-- A desk that has kept what it counts, in a place for 65 bytes; no other takes a byte.
+abbrev pub in-order : Desk → (kept : List ℕ) → Bool
+in-order d kept = leb (d .begun) 65 && leb 65 (length kept)
+
+abbrev pub fed-any : Desk → (kept : List ℕ) → (at size : ℕ) → List ℕ → Result
+fed-any d kept at size bytes = cond (in-order d kept) (fed d kept at size bytes) (still d kept)
+
+-- A piece that was fed, from a place of it on, with an output from a place on: what is left of each.
+pub record Feeds (f : Result) (from : ℕ) (out : List ℕ) (at : ℕ) (desk : Desk) (kept : List ℕ) (next : ℕ) (written : List ℕ) (end : ℕ) : Type 0 where
+  pub desk-is : desk ≡ f .desk
+  pub kept-is : kept ≡ f .kept
+  pub next-is : next ≡ from + f .taken
+  pub written-is : Writes out at (f .printed) written end

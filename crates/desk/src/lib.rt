@@ -1,0 +1,195 @@
+// The desk: bytes in, in pieces of any size, and the replies to their lines out.
+use clerk::Clerk;
+ghost use mathlib.Core.Bool.{cond};
+ghost use mathlib.Core.List.{[]};
+ghost use mathlib.Core.Path.{_≡_};
+ghost use Prim.Native.Nat.{_+_, _≤_};
+ghost use lib.ListN.{length, drop};
+ghost use Rattle.clerk.specs.Clerk.{reply};
+ghost use Rattle.replies.specs.Text.{text, Writes, if-room};
+ghost use Rattle.desk.specs.Steps.{begun-line, at-first, stopped, answered, longer, with-byte, next-desk, next-kept, prints, prints-last, in-order, fed-any, Feeds};
+
+// Where the desk stands: the clerk, the number of the line that is begun or next, how many bytes of it are kept, and whether no more is read.
+pub struct Desk {
+    pub clerk: Clerk,
+    pub line: u32,
+    pub begun: usize,
+    pub over: bool,
+}
+
+// The desk behind a byte, and the place behind what was written.
+struct Stepped {
+    desk: Desk,
+    at: usize,
+}
+
+// A desk before its first byte.
+pub fn opened() -> Desk
+    ensures { λ r. ⌜ r ≡ at-first ⌝ }
+{
+    Desk {
+        clerk: Clerk::NoArea,
+        line: 1,
+        begun: 0,
+        over: false,
+    }
+}
+
+// A desk that reads no more.
+pub fn closed(desk: Desk) -> Desk
+    ensures { λ r. ⌜ r ≡ stopped desk ⌝ }
+{
+    let clerk = desk.clerk;
+    Desk {
+        clerk: clerk,
+        line: desk.line,
+        begun: desk.begun,
+        over: true,
+    }
+}
+
+// A byte of a line is kept, if it is among the first 65: they decide.
+fn keep(desk: Desk, kept: &mut [u8], b: u8) -> Desk
+    requires { ⌜ 65 ≤ length (now kept) ⌝ }
+    ensures { λ r. ⌜ (r ≡ longer desk) × (now (kept .exit) ≡ with-byte desk (now (kept .entry)) b) ⌝ }
+{
+    let clerk = desk.clerk;
+    let begun = desk.begun;
+    if 64 < begun {
+        return desk;
+    }
+    kept[begun] = b;
+    Desk {
+        clerk: clerk,
+        line: desk.line,
+        begun: begun + 1,
+        over: false,
+    }
+}
+
+// The line that is begun is answered.
+fn answer(desk: Desk, kept: &[u8], out: &mut [u8], at: usize) -> Stepped
+    requires { ⌜ (desk .begun ≤ 65) × (65 ≤ length (now kept)) × (desk .line ≤ 65535) ⌝ }
+    ensures { λ r. ⌜ (r .desk ≡ answered desk (now (kept .entry)))
+        × Writes (now (out .entry)) at (if-room (now (out .entry)) at (text (desk .line) (reply (desk .clerk) (begun-line desk (now (kept .entry)))))) (now (out .exit)) (r .at) × (r .at ≤ at + 71) ⌝ }
+{
+    let clerk = desk.clerk;
+    let begun = desk.begun;
+    let handled = clerk.handle(&kept[..begun]);
+    let behind = handled.clerk;
+    let reply = handled.reply;
+    let end = replies::write_reply(out, at, desk.line, reply);
+    let next = Desk {
+        clerk: behind,
+        line: desk.line + 1,
+        begun: 0,
+        over: false,
+    };
+    Stepped {
+        desk: next,
+        at: end,
+    }
+}
+
+// One byte.
+fn step(desk: Desk, kept: &mut [u8], b: u8, out: &mut [u8], at: usize) -> Stepped
+    requires { ⌜ (desk .begun ≤ 65) × (65 ≤ length (now kept)) × (at + 71 ≤ length (now out)) ⌝ }
+    ensures { λ r. ⌜ (r .desk ≡ next-desk desk (now (kept .entry)) b) × (now (kept .exit) ≡ next-kept desk (now (kept .entry)) b)
+        × Writes (now (out .entry)) at (prints desk (now (kept .entry)) b) (now (out .exit)) (r .at) × (r .at ≤ at + 71) ⌝ }
+{
+    if desk.over {
+        return Stepped { desk: desk, at: at };
+    }
+    if 65535 < desk.line {
+        let end = replies::write_stop(out, at, desk.line);
+        let last = closed(desk);
+        return Stepped {
+            desk: last,
+            at: end,
+        };
+    }
+    if b == 10 {
+        return answer(desk, kept, out, at);
+    }
+    let next = keep(desk, kept, b);
+    Stepped { desk: next, at: at }
+}
+
+// The desk behind as many bytes of a chunk as there was room to answer, the next of them, and the place behind what was written.
+pub struct Fed {
+    pub desk: Desk,
+    pub from: usize,
+    pub at: usize,
+}
+
+// Whether a desk has kept what it counts, in a place for 65 bytes.
+fn is_in_order(desk: Desk, kept: &[u8]) -> bool
+    ensures { λ r. ⌜ r ≡ in-order desk (now (kept .entry)) ⌝ }
+{
+    if desk.begun <= 65 {
+        return 65 <= kept.len();
+    }
+    false
+}
+
+// Takes the bytes of a chunk from a place on.
+pub fn feed(
+    desk: Desk,
+    kept: &mut [u8],
+    chunk: &[u8],
+    from: usize,
+    out: &mut [u8],
+    at: usize,
+) -> Fed
+    ensures { λ r. ⌜ Feeds (fed-any desk (now (kept .entry)) at (length (now (out .entry))) (drop from (now (chunk .entry)))) from (now (out .entry)) at (r .desk) (now (kept .exit)) (r .from) (now (out .exit)) (r .at)
+        × (at ≤ length (now (out .entry)) → r .at ≤ length (now (out .entry))) ⌝ }
+{
+    let mut d = desk;
+    let mut i = from;
+    let mut p = at;
+    if !is_in_order(desk, kept) {
+        return Fed {
+            desk: d,
+            from: i,
+            at: p,
+        };
+    }
+    while i < chunk.len() {
+        if !replies::has_room(out, p) {
+            return Fed {
+                desk: d,
+                from: i,
+                at: p,
+            };
+        }
+        let s = step(d, kept, chunk[i], out, p);
+        d = s.desk;
+        p = s.at;
+        i = i + 1;
+    }
+    Fed {
+        desk: d,
+        from: i,
+        at: p,
+    }
+}
+
+// Answers the line that is begun, at the end of the input.
+pub fn finish(desk: Desk, kept: &[u8], out: &mut [u8], at: usize) -> usize
+    ensures { λ r. ⌜ Writes (now (out .entry)) at (cond (in-order desk (now (kept .entry))) (if-room (now (out .entry)) at (prints-last desk (now (kept .entry)))) []) (now (out .exit)) r × (r ≤ at + 71) ⌝ }
+{
+    if !is_in_order(desk, kept) {
+        return at;
+    }
+    if desk.over {
+        return at;
+    }
+    if desk.begun == 0 {
+        return at;
+    }
+    let clerk = desk.clerk;
+    let begun = desk.begun;
+    let handled = clerk.handle(&kept[..begun]);
+    let reply = handled.reply;
+    replies::write_reply(out, at, desk.line, reply)
+}
