@@ -1,5 +1,7 @@
 // What the library should answer, worked out independently: written from document 01 alone, in plain Rust, with no code of the library.
-// `independent traversals` prints what the test program `traversals` prints.
+// `independent traversals` prints what the test program `traversals` prints, and `independent orders` what the program `orders` prints for the same
+// standard input.
+use std::io::Read;
 
 #[derive(Clone, Copy, PartialEq)]
 struct Square {
@@ -268,11 +270,66 @@ fn traversals() {
     tables();
 }
 
+// A field as a number: 1 to 10 digits, no 0 before others, at most 4,294,967,295.
+fn number(field: &[u8]) -> Option<i64> {
+    let text = std::str::from_utf8(field).ok()?;
+    let plain = (1..=10).contains(&text.len()) && text.chars().all(|c| c.is_ascii_digit()) && (text.len() == 1 || !text.starts_with('0'));
+    let value: i64 = if plain { text.parse().ok()? } else { return None };
+    (value <= 4294967295).then_some(value)
+}
+
+// What a line is answered, and the area in force after it.
+fn answered(line: &[u8], area: Option<(i64, i64)>) -> (Result<String, i64>, Option<(i64, i64)>) {
+    let fields: Vec<&[u8]> = line.split(|&b| b == b' ').collect();
+    let after_refusal = if line.starts_with(b"AREA") { None } else { area };
+    let shaped = matches!((fields[0], fields.len()), (b"AREA", 3) | (b"N", 2) | (b"S", 3)) && fields.iter().all(|f| !f.is_empty());
+    let numbers: Option<Vec<i64>> = fields[1..].iter().map(|f| number(f)).collect();
+    let answer = match (line.len() > 64, shaped, numbers, fields[0], area) {
+        (true, ..) => Err(8),
+        (_, false, ..) => Err(6),
+        (_, _, None, ..) => Err(5),
+        (_, _, Some(n), b"AREA", _) => {
+            return match finish_square(n[0], n[1]) {
+                Ok(s) => (Ok(format!("AREA {} {} {} {} {}", n[0], n[1], n[0] * n[1], s[0], s[1])), Some((n[0], n[1]))),
+                Err(refusal) => (Err(refusal), None),
+            };
+        }
+        (.., None) => Err(7),
+        (_, _, Some(n), b"N", Some((w, h))) => number_to_square(w, h, n[0]).map(|v| format!("CELL {} {} {}", v[0], v[1], v[2])),
+        (_, _, Some(n), _, Some((w, h))) => square_to_number(w, h, n[0], n[1]).map(|v| format!("NUMBER {} {}", v[0], v[1])),
+    };
+    (answer, after_refusal)
+}
+
+// What the program `orders` prints for standard input.
+fn orders() {
+    let mut input = Vec::new();
+    std::io::stdin().read_to_end(&mut input).expect("standard input can be read");
+    let mut lines: Vec<&[u8]> = input.split(|&b| b == b'\n').collect();
+    if lines.last().is_some_and(|last| last.is_empty()) {
+        lines.pop();
+    }
+    let mut area = None;
+    for (i, line) in lines.into_iter().enumerate() {
+        if i + 1 == 65536 {
+            println!("65536 STOP");
+            return;
+        }
+        let answer;
+        (answer, area) = answered(line, area);
+        match answer {
+            Ok(text) => println!("{} {text}", i + 1),
+            Err(refusal) => println!("{} REFUSED {refusal}", i + 1),
+        }
+    }
+}
+
 fn main() {
     match std::env::args().nth(1).as_deref() {
         Some("traversals") => traversals(),
+        Some("orders") => orders(),
         _ => {
-            eprintln!("usage: independent traversals");
+            eprintln!("usage: independent traversals | orders");
             std::process::exit(2);
         }
     }
