@@ -5,7 +5,7 @@ ghost use mathlib.Core.List.{[]};
 ghost use mathlib.Core.Path.{_≡_};
 ghost use Prim.Native.Nat.{_+_, _≤_};
 ghost use lib.ListN.{length, drop};
-ghost use Rattle.clerk.specs.Clerk.{reply};
+ghost use Rattle.clerk.specs.Clerk.{after, reply};
 ghost use Rattle.replies.specs.Text.{text, Writes, if-room};
 ghost use Rattle.desk.specs.Steps.{begun-line, at-first, stopped, answered, longer, with-byte, next-desk, next-kept, prints, prints-last, in-order, fed-any, Feeds};
 
@@ -67,10 +67,16 @@ fn keep(desk: Desk, kept: &mut [u8], b: u8) -> Desk
     }
 }
 
-// The line that is begun is answered.
-fn answer(desk: Desk, kept: &[u8], out: &mut [u8], at: usize) -> Stepped
-    requires { ⌜ (desk .begun ≤ 65) × (65 ≤ length (now kept)) × (desk .line ≤ 65535) ⌝ }
-    ensures { λ r. ⌜ (r .desk ≡ answered desk (now (kept .entry)))
+// The clerk behind a line, and the place behind the reply to it.
+struct Told {
+    clerk: Clerk,
+    at: usize,
+}
+
+// The reply to the line that is begun is written.
+fn tell(desk: Desk, kept: &[u8], out: &mut [u8], at: usize) -> Told
+    requires { ⌜ (desk .begun ≤ 65) × (65 ≤ length (now kept)) ⌝ }
+    ensures { λ r. ⌜ (r .clerk ≡ after (desk .clerk) (begun-line desk (now (kept .entry))))
         × Writes (now (out .entry)) at (if-room (now (out .entry)) at (text (desk .line) (reply (desk .clerk) (begun-line desk (now (kept .entry)))))) (now (out .exit)) (r .at) × (r .at ≤ at + 71) ⌝ }
 {
     let clerk = desk.clerk;
@@ -79,15 +85,29 @@ fn answer(desk: Desk, kept: &[u8], out: &mut [u8], at: usize) -> Stepped
     let behind = handled.clerk;
     let reply = handled.reply;
     let end = replies::write_reply(out, at, desk.line, reply);
-    let next = Desk {
+    Told {
         clerk: behind,
+        at: end,
+    }
+}
+
+// The line that is begun is answered, and the next one is begun.
+fn answer(desk: Desk, kept: &[u8], out: &mut [u8], at: usize) -> Stepped
+    requires { ⌜ (desk .begun ≤ 65) × (65 ≤ length (now kept)) × (desk .line ≤ 65535) ⌝ }
+    ensures { λ r. ⌜ (r .desk ≡ answered desk (now (kept .entry)))
+        × Writes (now (out .entry)) at (if-room (now (out .entry)) at (text (desk .line) (reply (desk .clerk) (begun-line desk (now (kept .entry)))))) (now (out .exit)) (r .at) × (r .at ≤ at + 71) ⌝ }
+{
+    let told = tell(desk, kept, out, at);
+    let clerk = told.clerk;
+    let next = Desk {
+        clerk: clerk,
         line: desk.line + 1,
         begun: 0,
         over: false,
     };
     Stepped {
         desk: next,
-        at: end,
+        at: told.at,
     }
 }
 
@@ -187,9 +207,6 @@ pub fn finish(desk: Desk, kept: &[u8], out: &mut [u8], at: usize) -> usize
     if desk.begun == 0 {
         return at;
     }
-    let clerk = desk.clerk;
-    let begun = desk.begun;
-    let handled = clerk.handle(&kept[..begun]);
-    let reply = handled.reply;
-    replies::write_reply(out, at, desk.line, reply)
+    let told = tell(desk, kept, out, at);
+    told.at
 }

@@ -1,45 +1,24 @@
--- `desk::answer` meets its contract: the clerk's reply to the line that is begun, as text.
+-- `desk::answer` meets its contract: the reply is written, and the desk stands before the next line.
 use borrow.Author.Needs.{needs}
-use mathlib.Core.Bool.{false}
-use mathlib.Core.Path.{sym, ap, subst}
-use Prim.Native.Nat.{_+_}
-use native.Mathlib.Omega.{arith}
-use lib.Seq.{length-take-le}
-use Rattle.clerk.specs.Clerk.{Said}
-use Rattle.replies.specs.Text.{text, Writes, if-room}
-use Rattle.desk.specs.declared.Desk.{Desk}
 use Rattle.desk.proofs.answer.Statement.{statement}
 use Rattle.desk.proofs.answer.Tie as tie
+use mathlib.Core.Bool.{false}
+use mathlib.Core.Path.{ap}
+use Prim.Native.Nat.{_+_}
+use native.Mathlib.Omega.{arith}
+use Rattle.desk.specs.declared.Desk.{Desk}
 
-slice-aggregate-handle : tie.Need-slice-aggregate-handle
-slice-aggregate-handle c = sym (length-take-le (c .before .before .before .args .desk .begun) (c .before .before .before .args .kept .now) (let least = c .before .before .before .pre .0 in let most = c .before .before .before .pre .1 in omega arith))
+tell-requires : tie.Need-tell-requires
+tell-requires c κs = (c .before .before .before .pre .0, c .before .before .before .pre .1)
 
-handle-requires : tie.Need-handle-requires
-handle-requires c κs = search needs
-
-write-reply-requires : tie.Need-write-reply-requires
-write-reply-requires c κs = search needs
-
-add-t16 : tie.Need-add-t16
-add-t16 c = record { fits = let few = c .before .before .before .before .before .before .before .before .before .pre .2 in omega arith }
+add-t10 : tie.Need-add-t10
+add-t10 c = record { fits = let few = c .before .before .before .before .before .before .before .pre .2 in omega arith }
 
 same-length : tie.Need-same-length
 same-length c = search needs
 
 returns : tie.Need-returns
-returns c = (
-  ap {B = Desk} (λ k. record { clerk = k; line = c .before .before .before .before .before .before .before .before .before .args .desk .line + 1; begun = 0; over = false }) (c .before .before .before .before .before .handle .ensures .0),
-  subst (λ (s : Said). Writes (c .before .before .before .before .before .before .before .before .before .args .out .now) (c .before .before .before .before .before .before .before .before .before .args .at) (if-room (c .before .before .before .before .before .before .before .before .before .args .out .now) (c .before .before .before .before .before .before .before .before .before .args .at) (text (c .before .before .before .before .before .before .before .before .before .args .desk .line) s)) (c .before .before .before .write-reply .last .0) (c .before .before .before .write-reply .result)) (c .before .before .before .before .before .handle .ensures .1) (c .before .before .before .write-reply .ensures .0),
-  c .before .before .before .write-reply .ensures .1,
-)
+returns c = (ap {B = Desk} (λ k. record { clerk = k; line = c .before .before .before .before .before .before .before .args .desk .line + 1; begun = 0; over = false }) (c .before .before .before .tell .ensures .0), c .before .before .before .tell .ensures .1, c .before .before .before .tell .ensures .2)
 
 pub answer-spec : {M : Type 1} → statement M
-answer-spec =
-    tie.close
-    (tie.spec
-    slice-aggregate-handle
-    handle-requires
-    write-reply-requires
-    add-t16
-    same-length
-    returns)
+answer-spec = tie.close (tie.spec tell-requires add-t10 same-length returns)

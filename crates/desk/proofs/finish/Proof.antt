@@ -1,19 +1,16 @@
 -- `desk::finish` meets its contract: the line that is begun is answered, if the desk has one and reads on.
 use borrow.Author.Needs.{needs}
-use mathlib.Core.Path.{sym, subst, _∙_}
+use Rattle.desk.proofs.finish.Statement.{statement}
+use Rattle.desk.proofs.finish.Tie as tie
+use mathlib.Core.Path.{sym, _∙_}
 use Prim.Native.Nat.{_+_}
 use native.Mathlib.Omega.{arith}
 use borrow.Author.Tests.{not-true, not-false, eq-eqb, ne-eqb}
 use lib.Dec.{leb}
 use lib.ListN.{length}
-use lib.Seq.{length-take-le}
-use Rattle.clerk.specs.Clerk.{Said}
-use Rattle.replies.specs.Text.{text, Writes, if-room}
 use Rattle.replies.proofs.Writing.{writes-none}
 use Rattle.desk.specs.Steps.{in-order}
 use Rattle.desk.proofs.Bytes.{writes-nothing, ordered}
-use Rattle.desk.proofs.finish.Statement.{statement}
-use Rattle.desk.proofs.finish.Tie as tie
 
 is-in-order-requires : tie.Need-is-in-order-requires
 is-in-order-requires c κs = search needs
@@ -27,31 +24,16 @@ returns-2 c = (rw (c .if2 .taken) (writes-nothing (c .before .before .before .be
 returns-3 : tie.Need-returns-3
 returns-3 c = (rw (c .before .before .if2 .left, eq-eqb (c .before .before .before .before .before .before .before .args .desk .begun) 0 (c .if3 .taken)) (writes-nothing (c .before .before .before .before .before .before .before .args .out .now) (c .before .before .before .before .before .before .before .args .at) (in-order (c .before .before .before .before .before .before .before .args .desk) (c .before .before .before .before .before .before .before .args .kept .now)) (leb (c .before .before .before .before .before .before .before .args .at + 71) (length (c .before .before .before .before .before .before .before .args .out .now)))), omega arith)
 
-slice-aggregate-handle : tie.Need-slice-aggregate-handle
-slice-aggregate-handle c = sym (length-take-le (c .before .before .before .before .before .before .before .before .args .desk .begun) (c .before .before .before .before .before .before .before .before .args .kept .now) (let both = ordered (c .before .before .before .before .before .before .before .before .args .desk) (c .before .before .before .before .before .before .before .before .args .kept .now) (sym (c .before .before .before .before .before .is-in-order .ensures) ∙ not-false _ (c .before .before .before .before .if1 .left)) in let few = both .0 in let all = both .1 in omega arith))
-
-handle-requires : tie.Need-handle-requires
-handle-requires c κs = search needs
-
-write-reply-requires : tie.Need-write-reply-requires
-write-reply-requires c κs = search needs
+tell-requires : tie.Need-tell-requires
+tell-requires c κs = ordered (c .before .before .before .before .before .before .before .before .args .desk) (c .before .before .before .before .before .before .before .before .args .kept .now) (sym (c .before .before .before .before .before .is-in-order .ensures) ∙ not-false _ (c .before .before .before .before .if1 .left))
 
 same-length : tie.Need-same-length
 same-length c = search needs
 
 returns-4 : tie.Need-returns-4
-returns-4 c = (rw (sym (c .before .before .before .before .before .before .before .before .before .before .is-in-order .ensures) ∙ not-false _ (c .before .before .before .before .before .before .before .before .before .if1 .left), c .before .before .before .before .before .before .before .before .if2 .left, ne-eqb (c .before .before .before .before .before .before .before .before .before .before .before .before .before .args .desk .begun) 0 (c .before .before .before .before .before .before .if3 .left)) (subst (λ (s : Said). Writes (c .before .before .before .before .before .before .before .before .before .before .before .before .before .args .out .now) (c .before .before .before .before .before .before .before .before .before .before .before .before .before .args .at) (if-room (c .before .before .before .before .before .before .before .before .before .before .before .before .before .args .out .now) (c .before .before .before .before .before .before .before .before .before .before .before .before .before .args .at) (text (c .before .before .before .before .before .before .before .before .before .before .before .before .before .args .desk .line) s)) (c .before .before .write-reply .last .0) (c .before .before .write-reply .result)) (c .before .before .before .before .handle .ensures .1) (c .before .before .write-reply .ensures .0)), c .before .before .write-reply .ensures .1)
+returns-4 c = (rw (sym (c .before .before .before .before .before .before .before .before .is-in-order .ensures) ∙ not-false _ (c .before .before .before .before .before .before .before .if1 .left), c .before .before .before .before .before .before .if2 .left, ne-eqb (c .before .before .before .before .before .before .before .before .before .before .before .args .desk .begun) 0 (c .before .before .before .before .if3 .left)) (c .before .before .tell .ensures .1), c .before .before .tell .ensures .2)
 
 pub finish-spec : {M : Type 1} → statement M
 finish-spec =
     tie.close
-    (tie.spec
-    is-in-order-requires
-    returns
-    returns-2
-    returns-3
-    slice-aggregate-handle
-    handle-requires
-    write-reply-requires
-    same-length
-    returns-4)
+    (tie.spec is-in-order-requires returns returns-2 returns-3 tell-requires same-length returns-4)
