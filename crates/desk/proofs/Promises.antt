@@ -1,16 +1,18 @@
--- What the desk's promises come to: two results that meet one are one, and a reader that repeats its first answer is turned away.
+-- What the desk's promises come to: two results that meet one are one, and a reader that repeats its first answer is turned away, as are wrong programs
+-- for the small functions.
+use mathlib.Core.Bool.{Bool, true, false, cond}
 use mathlib.Core.List.{List, [], _∷_, _++_}
 use mathlib.Core.Path.{_≡_, sym, ap, _∙_}
-use Prim.Native.Nat.{ℕ, _+_}
+use Prim.Native.Nat.{ℕ, _+_, _≤_}
 use native.Mathlib.Omega.{arith}
-use lib.ListN.{getD}
+use lib.ListN.{getD, replicate}
 use Rattle.lines.specs.Lines.{fields, all-digits, value-on, is-number, numeral, same-bytes, shaped, request}
 use Rattle.clerk.specs.declared.Clerk.the-variants.{NoArea}
 use Rattle.clerk.specs.Clerk.{Said, after, reply}
-use Rattle.replies.specs.Text.{decimal-by, decimal, text}
+use Rattle.replies.specs.Text.{decimal-by, decimal, text, Writes, if-room}
 use Rattle.desk.specs.declared.Desk.{Desk}
 use Rattle.desk.specs.Desk.{lines-of, answers, output}
-use Rattle.desk.specs.Steps.{Result, Feeds}
+use Rattle.desk.specs.Steps.{at-first, stopped, prints-last, in-order, Result, Feeds}
 
 -- Two results of feeding that meet the promise are one.
 module _ {f : Result} {from : ℕ} {out : List ℕ} {at : ℕ} {d d′ : Desk} {kept kept′ : List ℕ} {next next′ : ℕ} {written written′ : List ℕ} {end end′ : ℕ}
@@ -45,3 +47,28 @@ unfolding first-repeated repeated output answers lines-of text decimal decimal-b
 repeats-its-first promise =
     let second : _≡_ {A = ℕ} 54 55 = ap (λ (t : List ℕ). getD t 22 0) (promise (10 ∷ 78 ∷ 32 ∷ 49 ∷ [])) in
     omega arith
+
+-- Turned away, of `closed`: one that leaves the desk reading, and one that begins anew.
+abbrev bit : Bool → ℕ
+bit true = 1
+bit false = 0
+
+pub reads-on : ((d : Desk) → d ≡ stopped d) → ⊥
+reads-on promise = let other : _≡_ {A = ℕ} 0 1 = ap (λ (d : Desk). bit (d .over)) (promise at-first) in omega arith
+
+pub begins-anew : ((d : Desk) → at-first ≡ stopped d) → ⊥
+begins-anew promise = let other : _≡_ {A = ℕ} 0 1 = ap (λ (d : Desk). bit (d .over)) (promise at-first) in omega arith
+
+-- Turned away, of `finish`: one that writes nothing, and one that takes an empty line for begun.
+abbrev last-of : Desk → List ℕ
+last-of d = cond (in-order d (replicate 65 0)) (if-room (replicate 71 0) 0 (prints-last d (replicate 65 0))) []
+
+abbrev with-begun : ℕ → Desk
+with-begun n = record { clerk = NoArea; line = 1; begun = n; over = false }
+
+pub last-line-lost : ((d : Desk) → Writes (replicate 71 0) 0 (last-of d) (replicate 71 0) 0) → ⊥
+unfolding text decimal decimal-by reply request shaped fields same-bytes
+last-line-lost promise = let other : _≡_ {A = ℕ} 0 12 = promise (with-begun 1) .behind in omega arith
+
+pub empty-line-answered : (after : List ℕ) (end : ℕ) → Writes (replicate 71 0) 0 (last-of at-first) after end → 1 ≤ end → ⊥
+empty-line-answered after end promise some = let none : end ≡ 0 = promise .behind in omega arith

@@ -1,0 +1,53 @@
+-- What the promises turn away: each wrong program is met by a buffer in which it would have to leave two things at once.
+use mathlib.Core.Bool.{Bool, true, false}
+use mathlib.Core.List.{List, [], _∷_}
+use mathlib.Core.Path.{_≡_, ap}
+use Prim.Native.Nat.{ℕ, _+_}
+use native.Mathlib.Omega.{arith}
+use lib.Dec.{leb}
+use lib.ListN.{replicate}
+use Rattle.clerk.specs.Clerk.{says, Refused}
+use Rattle.replies.specs.Text.{decimal-by, decimal, text, stop, longest, Writes, if-room}
+
+abbrev bit : Bool → ℕ
+bit true = 1
+bit false = 0
+
+-- Of `has_room`: one that always finds room, and one that asks for a single byte.
+pub always-room : ((at size : ℕ) → true ≡ leb (at + longest) size) → ⊥
+always-room promise = let other : _≡_ {A = ℕ} 1 0 = ap bit (promise 0 0) in omega arith
+
+pub room-for-a-byte : ((at size : ℕ) → leb (at + 1) size ≡ leb (at + longest) size) → ⊥
+room-for-a-byte promise = let other : _≡_ {A = ℕ} 1 0 = ap bit (promise 0 1) in omega arith
+
+-- Of `write_reply` and `write_stop`: one that writes nothing, and one that writes the same for every line.
+abbrev buffer : List ℕ
+buffer = replicate 71 0
+
+abbrev leaves : (ℕ → List ℕ) → ((line : ℕ) → List ℕ) → (ℕ → ℕ) → Type 0
+leaves bytes after end = (line : ℕ) → Writes buffer 0 (if-room buffer 0 (bytes line)) (after line) (end line)
+
+abbrev six : ℕ → List ℕ
+six line = text line (says Refused (6 ∷ []))
+
+pub reply-not-written : leaves six (λ line. buffer) (λ line. 0) → ⊥
+unfolding text decimal decimal-by
+reply-not-written promise = let other : _≡_ {A = ℕ} 0 12 = promise 1 .behind in omega arith
+
+pub stop-not-written : leaves stop (λ line. buffer) (λ line. 0) → ⊥
+unfolding stop decimal decimal-by
+stop-not-written promise = let other : _≡_ {A = ℕ} 0 7 = promise 1 .behind in omega arith
+
+pub reply-unnumbered : (after : List ℕ) (end : ℕ) → leaves six (λ line. after) (λ line. end) → ⊥
+unfolding text decimal decimal-by
+reply-unnumbered after end promise =
+    let one : end ≡ 12 = promise 1 .behind in
+    let ten : end ≡ 13 = promise 10 .behind in
+    omega arith
+
+pub stop-unnumbered : (after : List ℕ) (end : ℕ) → leaves stop (λ line. after) (λ line. end) → ⊥
+unfolding stop decimal decimal-by
+stop-unnumbered after end promise =
+    let one : end ≡ 7 = promise 1 .behind in
+    let ten : end ≡ 8 = promise 10 .behind in
+    omega arith
