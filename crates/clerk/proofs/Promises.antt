@@ -1,5 +1,5 @@
--- What the clerk's promise comes to: two replies that meet it are one, the first 65 bytes of a line decide, and a clerk that repeats its first answer is
--- turned away.
+-- What the clerk's promise comes to: two replies that meet it are one, the first 65 bytes of a line decide, and a clerk that repeats its first answer, one
+-- without an area and one that takes any area are turned away.
 use mathlib.Core.Bool.{Bool, true, false, cond}
 use mathlib.Core.List.{List, [], _∷_}
 use mathlib.Core.Path.{_≡_, refl, ap, ap₂}
@@ -9,10 +9,12 @@ use borrow.Author.Tests.{lt-leb, leb-true, leb-false}
 use lib.Dec.{leb, lit≤}
 use lib.ListN.{length, getD, take, length-take}
 use lib.Seq.{take-take, take-all}
+use Rattle.terms.specs.declared.Area.{Area}
+use Rattle.terms.specs.Terms.{accepted}
 use Rattle.terms.proofs.Laws.{refusal-one}
 use Rattle.lines.specs.Lines.{fields, all-digits, value-on, is-number, numeral, AREA, same-bytes, shaped, request}
 use Rattle.clerk.specs.declared.Clerk.{Clerk}
-use Rattle.clerk.specs.declared.Clerk.the-variants.{NoArea}
+use Rattle.clerk.specs.declared.Clerk.the-variants.{NoArea, InForce}
 use Rattle.clerk.specs.declared.Reply.{Reply}
 use Rattle.clerk.specs.declared.Reply.the-variants.{AreaSet, Cell, Number, Refused}
 use Rattle.clerk.specs.Clerk as spec
@@ -79,3 +81,16 @@ repeats-one-answer always promise =
     let six : value 0 always ≡ 6 = ap (value 0) (promise NoArea []) in
     let seven : value 0 always ≡ 7 = ap (value 0) (promise NoArea (78 ∷ 32 ∷ 49 ∷ [])) in
     omega arith
+
+-- Turned away: a clerk that never has an area in force, and one that takes any area, 0 by 0 too.
+abbrev held : Clerk → ℕ
+held NoArea = 0
+held (InForce area) = 1
+
+pub never-in-force : ((area : Area) → NoArea ≡ spec.in-force area) → ⊥
+unfolding accepted
+never-in-force promise = let other : _≡_ {A = ℕ} 0 1 = ap held (promise (record { w = 1; h = 1 })) in omega arith
+
+pub any-area-in-force : ((area : Area) → InForce area ≡ spec.in-force area) → ⊥
+unfolding accepted
+any-area-in-force promise = let other : _≡_ {A = ℕ} 1 0 = ap held (promise (record { w = 0; h = 0 })) in omega arith

@@ -55,8 +55,11 @@ due clerk (Requests.the-variants.Refused r) = says Refused (refusal-number r ∷
 abbrev pub begins-area : List ℕ → Bool
 begins-area line = same-bytes (take 4 line) AREA
 
+abbrev pub in-force : Area → Clerk
+in-force area = cond (accepted (area .w) (area .h)) (InForce area) NoArea
+
 abbrev pub set-by : Requests.Request → Clerk
-set-by (Requests.the-variants.SetArea w h) = cond (accepted w h) (InForce (record { w = w; h = h })) NoArea
+set-by (Requests.the-variants.SetArea w h) = in-force (record { w = w; h = h })
 set-by (Requests.the-variants.AskNumber i) = NoArea
 set-by (Requests.the-variants.AskSquare x y) = NoArea
 set-by (Requests.the-variants.Refused r) = NoArea

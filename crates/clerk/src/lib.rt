@@ -11,7 +11,7 @@ ghost use mathlib.Core.Path.{_≡_};
 ghost use Prim.Native.Nat.{_*_};
 ghost use Rattle.curve.specs.Lookups.{number-to-square, square-to-number, finish-square};
 ghost use Rattle.lines.specs.Lines.{request};
-ghost use Rattle.clerk.specs.Clerk.{Area-set, Cell, Number, said, told, due, begins-area, set-by, after, reply};
+ghost use Rattle.clerk.specs.Clerk.{Area-set, Cell, Number, said, told, due, begins-area, in-force, set-by, after, reply};
 
 // The area in force, if there is one.
 pub enum Clerk {
@@ -117,18 +117,22 @@ fn reply_to(clerk: Clerk, asked: Request) -> Reply
     }
 }
 
+// The clerk with an area in force, or with none where the area is not accepted.
+pub fn clerk_under(area: Area) -> Clerk
+    ensures { λ r. ⌜ r ≡ in-force area ⌝ }
+{
+    if terms::accepts(area) {
+        return Clerk::InForce(area);
+    }
+    Clerk::NoArea
+}
+
 // The clerk behind a line that begins with AREA.
 fn clerk_set(asked: Request) -> Clerk
     ensures { λ r. ⌜ r ≡ set-by asked ⌝ }
 {
     match asked {
-        Request::SetArea { w, h } => {
-            let area = Area { w: w, h: h };
-            if terms::accepts(area) {
-                return Clerk::InForce(area);
-            }
-            Clerk::NoArea
-        }
+        Request::SetArea { w, h } => clerk_under(Area { w: w, h: h }),
         _ => Clerk::NoArea,
     }
 }

@@ -9,17 +9,14 @@ use Rattle.clerk.proofs.clerk_set.Tie as tie
 enum-known-asked : tie.Need-enum-known-asked
 enum-known-asked c = search needs
 
-accepts-requires : tie.Need-accepts-requires
-accepts-requires c κs = search needs
+clerk-under-requires : tie.Need-clerk-under-requires
+clerk-under-requires c κs = search needs
 
 returns : tie.Need-returns
-returns c = sym (rw (sym (c .before .accepts .ensures) ∙ c .if1 .taken)) ∙ ap set-by (sym (c .before .before .before .asked .given .1))
+returns c = c .clerk-under .ensures ∙ ap set-by (sym (c .before .before .asked .given .1))
 
 returns-2 : tie.Need-returns-2
-returns-2 c = sym (rw (sym (c .before .accepts .ensures) ∙ c .if1 .left)) ∙ ap set-by (sym (c .before .before .before .asked .given .1))
-
-returns-3 : tie.Need-returns-3
-returns-3 c = none-set (c .before .args .asked) (c .match .keys2)
+returns-2 c = none-set (c .before .args .asked) (c .match .keys2)
 
 pub clerk-set-spec : {M : Type 1} → statement M
-clerk-set-spec = tie.close (tie.spec enum-known-asked accepts-requires returns returns-2 returns-3)
+clerk-set-spec = tie.close (tie.spec enum-known-asked clerk-under-requires returns returns-2)
