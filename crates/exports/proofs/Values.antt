@@ -1,13 +1,19 @@
 -- Stores to a slice's first places, and what a call across the boundary comes to where its slice is too short and where it is not.
 use mathlib.Core.List.{List, [], _∷_, _++_}
-use mathlib.Core.Path.{_≡_, refl, sym, ap, _∙_}
+use mathlib.Core.Path.{_≡_, refl, sym, ap, ap₂, _∙_}
 use Prim.Native.Nat.{ℕ, _≤_, _<_}
 use native.Mathlib.Omega.{arith}
 use borrow.Author.Tests.{le-leb, lt-leb}
-use lib.ListN.{length, drop, set}
+use lib.ListN.{length, drop, set, length-drop}
+use lib.Seq.{drop-drop}
+use Rattle.terms.specs.declared.Area.{Area}
 use Rattle.terms.specs.Terms.{Figures}
+use Rattle.clerk.specs.declared.Clerk.{Clerk}
+use Rattle.clerk.specs.declared.Reply.{Reply}
+use Rattle.clerk.specs.Clerk.{Said, said, after, reply}
 use Rattle.tables.specs.Tables.{unless-refused}
 use Rattle.exports.specs.Boundary.{returned, written, filled}
+use Rattle.exports.specs.Handling.{area-of, handled-figures, handled-by}
 
 pub set-one : (s : List ℕ) (x : ℕ) → 1 ≤ length s → set s 0 x ≡ x ∷ drop 1 s
 set-one [] x l = absurd (omega arith)
@@ -23,6 +29,14 @@ set-three [] x y z l = absurd (omega arith)
 set-three (a ∷ []) x y z l = absurd (omega arith)
 set-three (a ∷ b ∷ []) x y z l = absurd (omega arith)
 set-three (a ∷ b ∷ c ∷ s) x y z l = refl
+
+-- three places, and then three more
+pub set-six : (s : List ℕ) (w h k x y z : ℕ) → 6 ≤ length s → set (set (set (set (set (set s 0 w) 1 h) 2 k) 3 x) 4 y) 5 z ≡ w ∷ h ∷ k ∷ x ∷ y ∷ z ∷ drop 6 s
+set-six s w h k x y z l =
+    let rest = length-drop 3 s in
+    let first : set (set (set s 0 w) 1 h) 2 k ≡ w ∷ h ∷ k ∷ drop 3 s = set-three s w h k (omega arith) in
+    let second : set (set (set (drop 3 s) 0 x) 1 y) 2 z ≡ x ∷ y ∷ z ∷ drop 3 (drop 3 s) = set-three (drop 3 s) x y z (omega arith) in
+    ap (λ t. set (set (set t 3 x) 4 y) 5 z) first ∙ ap (λ t. w ∷ h ∷ k ∷ t) (second ∙ ap (λ t. x ∷ y ∷ z ∷ t) (drop-drop 3 3 s))
 
 pub short : (n : ℕ) (f : Figures) (s : List ℕ) → length s < n → (255 ≡ returned n f s) × (s ≡ written n f s)
 short n f s l = rw (lt-leb n (length s) l) (refl, refl)
@@ -43,3 +57,12 @@ short-kept f due table slice l = rw (lt-leb 1 (length slice) l) refl
 pub table-filled : (f : Figures) (due table slice : List ℕ) → 1 ≤ length slice → (last : List ℕ) → last ≡ unless-refused f due table
     → last ≡ filled f due table slice
 table-filled f due table slice l last e = rw (le-leb 1 (length slice) l) e
+
+-- What the clerk hands back, as figures, is what is due of a clerk under the caller's area.
+abbrev pub shown-under : Area → Reply → Figures
+shown-under area r = handled-figures area (said r)
+
+pub handled-as : {under clerk : Clerk} {area : Area} {s : Said} {from : Clerk} (line : List ℕ) → under ≡ from → (clerk ≡ after under line) × (s ≡ reply under line)
+    → area ≡ area-of clerk → handled-figures area s ≡ handled-by from line
+handled-as line begun both held =
+    ap₂ handled-figures (held ∙ ap area-of (both .0)) (both .1) ∙ ap (λ k. handled-by k line) begun

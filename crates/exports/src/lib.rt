@@ -2,6 +2,8 @@
 //
 // A call that answers several values takes a slice for them. It returns the refusal's number, 0 for none, and writes the values to the slice's first
 // places, 0 each where it is refused. A slice that is too short is left as it is, and 255 is returned, which is no refusal's number.
+use clerk::Clerk;
+use clerk::Reply;
 use curve::FinishAnswer;
 use curve::NumberAnswer;
 use curve::SquareAnswer;
@@ -12,9 +14,11 @@ ghost use mathlib.Core.List.{_∷_, _++_};
 ghost use mathlib.Core.Path.{_≡_};
 ghost use Prim.Native.Nat.{_≤_};
 ghost use lib.ListN.{length, drop};
+ghost use Rattle.clerk.specs.Clerk.{said};
 ghost use Rattle.curve.specs.Lookups.{number-to-square, square-to-number, finish-square};
 ghost use Rattle.tables.specs.Tables.{by-number, by-square, fill, fill-figures, check, check-figures};
 ghost use Rattle.exports.specs.Boundary.{returned, written, filled};
+ghost use Rattle.exports.specs.Handling.{area-of, handled-figures, handled};
 
 // The first two, or three, places of a slice.
 fn put_two(result: &mut [u32], x: u32, y: u32)
@@ -206,4 +210,74 @@ pub extern "C" fn uvalinda_check_by_square(w: u32, h: u32, table: &[u32], result
     }
     let answer = tables::check_by_square(Area { w: w, h: h }, table);
     tell_check(answer, result)
+}
+
+// The first six places of a slice: an area, what kind of reply, and its values.
+fn put_six(result: &mut [u32], area: Area, kind: u32, x: u32, y: u32, z: u32)
+    requires { ⌜ 6 ≤ length (now result) ⌝ }
+    ensures { λ r. ⌜ now (result .exit) ≡ area .w ∷ area .h ∷ kind ∷ x ∷ y ∷ z ∷ drop 6 (now (result .entry)) ⌝ }
+{
+    result[0] = area.w;
+    result[1] = area.h;
+    result[2] = kind;
+    result[3] = x;
+    result[4] = y;
+    result[5] = z;
+}
+
+// The area in force, 0 by 0 for none.
+fn area_in_force(clerk: Clerk) -> Area
+    ensures { λ r. ⌜ r ≡ area-of clerk ⌝ }
+{
+    match clerk {
+        Clerk::NoArea => Area { w: 0, h: 0 },
+        Clerk::InForce(area) => area,
+    }
+}
+
+// A reply under the area then in force: 1 for AREA, 2 for CELL, 3 for NUMBER, with its values, or a refusal.
+fn tell_reply(area: Area, reply: Reply, result: &mut [u32]) -> u32
+    requires { ⌜ 6 ≤ length (now result) ⌝ }
+    ensures { λ r. ⌜ (r ≡ handled-figures area (said reply) .refusal) × (now (result .exit) ≡ handled-figures area (said reply) .values ++ drop 6 (now (result .entry))) ⌝ }
+{
+    match reply {
+        Reply::AreaSet {
+            w,
+            h,
+            squares,
+            x,
+            y,
+        } => {
+            put_six(result, area, 1, squares, x, y);
+            0
+        }
+        Reply::Cell { x, y, blocks } => {
+            put_six(result, area, 2, x, y, blocks);
+            0
+        }
+        Reply::Number { number, blocks } => {
+            put_six(result, area, 3, number, blocks, 0);
+            0
+        }
+        Reply::Refused(r) => {
+            put_six(result, area, 0, 0, 0, 0);
+            terms::refusal_number(r)
+        }
+    }
+}
+
+// Answers an order line under a caller's area, and says which area is then in force.
+#[no_mangle]
+pub extern "C" fn uvalinda_handle_line(w: u32, h: u32, line: &[u8], result: &mut [u32]) -> u32
+    ensures { λ r. ⌜ (r ≡ returned 6 (handled w h (now (line .entry))) (now (result .entry)))
+        × (now (result .exit) ≡ written 6 (handled w h (now (line .entry))) (now (result .entry))) ⌝ }
+{
+    if result.len() < 6 {
+        return 255;
+    }
+    let clerk = clerk::clerk_under(Area { w: w, h: h });
+    let handled = clerk.handle(line);
+    let after = handled.clerk;
+    let reply = handled.reply;
+    tell_reply(area_in_force(after), reply, result)
 }

@@ -1,0 +1,21 @@
+-- `exports::area_in_force` meets its contract.
+use borrow.Author.Needs.{needs}
+use mathlib.Core.Path.{sym, ap}
+use Rattle.exports.specs.Handling.{area-of}
+use Rattle.exports.proofs.area_in_force.Statement.{statement}
+use Rattle.exports.proofs.area_in_force.Tie as tie
+
+enum-told : tie.Need-enum-told
+enum-told c = search needs
+
+enum-known-clerk : tie.Need-enum-known-clerk
+enum-known-clerk c = search needs
+
+returns : tie.Need-returns
+returns c = ap area-of (sym (c .enum-told .given .1))
+
+returns-2 : tie.Need-returns-2
+returns-2 c = search needs
+
+pub area-in-force-spec : {M : Type 1} → statement M
+area-in-force-spec = tie.close (tie.spec enum-told enum-known-clerk returns returns-2)
