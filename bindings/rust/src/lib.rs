@@ -1,0 +1,206 @@
+//! Numbers the squares of a rectangle along the Gilbert curve.
+//!
+//! The library underneath is proved: for any numbers, tables and lines there is an answer, and it is the one that its documents define. These
+//! bindings add no decision of their own; they hand slices over with their lengths and give each refusal its name. They need neither `std` nor an
+//! allocator.
+//!
+//! ```
+//! use uvalinda::{Area, Cell, Refusal};
+//!
+//! let area = Area { w: 3, h: 4 };
+//! assert_eq!(area.number_to_square(8), Ok(Cell { x: 2, y: 1, blocks: 3 }));
+//! assert_eq!(area.number_to_square(12), Err(Refusal::NumberOutside));
+//! ```
+#![no_std]
+#![warn(missing_docs)]
+
+mod clerk;
+mod raw;
+mod refusal;
+mod squares;
+
+pub use clerk::{Clerk, Reply};
+pub use refusal::Refusal;
+pub use squares::Squares;
+
+/// An area, `w` squares wide and `h` high. Any numbers can stand here: every call refuses an area that is not accepted.
+#[derive(Clone, Copy, Debug, PartialEq, Eq, Hash)]
+pub struct Area {
+    /// The width, from 1 to 65,535.
+    pub w: u32,
+    /// The height, from 1 to 65,535.
+    pub h: u32,
+}
+
+/// A square.
+#[derive(Clone, Copy, Debug, PartialEq, Eq, Hash)]
+pub struct Square {
+    /// From 0 to w - 1.
+    pub x: u32,
+    /// From 0 to h - 1.
+    pub y: u32,
+}
+
+/// The square of a number.
+#[derive(Clone, Copy, Debug, PartialEq, Eq, Hash)]
+pub struct Cell {
+    /// From 0 to w - 1.
+    pub x: u32,
+    /// From 0 to h - 1.
+    pub y: u32,
+    /// How many blocks of the division hold the square.
+    pub blocks: u32,
+}
+
+/// The number of a square.
+#[derive(Clone, Copy, Debug, PartialEq, Eq, Hash)]
+pub struct Number {
+    /// From 0 to w·h - 1.
+    pub number: u32,
+    /// How many blocks of the division hold the square.
+    pub blocks: u32,
+}
+
+/// What a check found.
+#[derive(Clone, Copy, Debug, PartialEq, Eq, Hash)]
+pub enum Check {
+    /// Every place holds what it should.
+    Right,
+    /// The first place that does not, and the value due there.
+    Wrong {
+        /// The first wrong place.
+        place: u32,
+        /// The value due there.
+        due: u32,
+    },
+}
+
+impl Area {
+    /// The square of a number. Refused: [`Refusal::AreaLimit`], then [`Refusal::NumberOutside`].
+    ///
+    /// ```
+    /// # use uvalinda::{Area, Cell, Refusal};
+    /// assert_eq!(Area { w: 7, h: 4 }.number_to_square(16), Ok(Cell { x: 4, y: 0, blocks: 3 }));
+    /// assert_eq!(Area { w: 0, h: 5 }.number_to_square(0), Err(Refusal::AreaLimit));
+    /// ```
+    pub fn number_to_square(self, number: u32) -> Result<Cell, Refusal> {
+        let mut found = [0; 3];
+        // SAFETY: the array is passed with its own length.
+        let returned = unsafe { raw::uvalinda_number_to_square(self.w, self.h, number, found.as_mut_ptr(), found.len()) };
+        let [x, y, blocks] = found;
+        refusal::unless_refused(returned, Cell { x, y, blocks })
+    }
+
+    /// The number of a square. Refused: [`Refusal::AreaLimit`], then [`Refusal::SquareOutside`].
+    ///
+    /// ```
+    /// # use uvalinda::{Area, Number, Refusal};
+    /// assert_eq!(Area { w: 4, h: 3 }.square_to_number(2, 1), Ok(Number { number: 9, blocks: 3 }));
+    /// assert_eq!(Area { w: 4, h: 3 }.square_to_number(0, 3), Err(Refusal::SquareOutside));
+    /// ```
+    pub fn square_to_number(self, x: u32, y: u32) -> Result<Number, Refusal> {
+        let mut found = [0; 2];
+        // SAFETY: the array is passed with its own length.
+        let returned = unsafe { raw::uvalinda_square_to_number(self.w, self.h, x, y, found.as_mut_ptr(), found.len()) };
+        let [number, blocks] = found;
+        refusal::unless_refused(returned, Number { number, blocks })
+    }
+
+    /// The finish square. Refused: [`Refusal::AreaLimit`].
+    ///
+    /// ```
+    /// # use uvalinda::{Area, Square};
+    /// assert_eq!(Area { w: 3, h: 4 }.finish_square(), Ok(Square { x: 2, y: 0 }));
+    /// ```
+    pub fn finish_square(self) -> Result<Square, Refusal> {
+        let mut found = [0; 2];
+        // SAFETY: the array is passed with its own length.
+        let returned = unsafe { raw::uvalinda_finish_square(self.w, self.h, found.as_mut_ptr(), found.len()) };
+        let [x, y] = found;
+        refusal::unless_refused(returned, Square { x, y })
+    }
+
+    /// Place i gets y·w + x of square number i. Says how many blocks the division has. Refused, with the table as it was:
+    /// [`Refusal::AreaLimit`], then [`Refusal::TableLength`] for a table that has not exactly w·h places.
+    ///
+    /// ```
+    /// # use uvalinda::{Area, Refusal};
+    /// let mut table = [7; 4];
+    /// assert_eq!(Area { w: 2, h: 3 }.fill_by_number(&mut table), Err(Refusal::TableLength));
+    /// assert_eq!(table, [7; 4]);
+    /// assert_eq!(Area { w: 2, h: 2 }.fill_by_number(&mut table), Ok(4));
+    /// assert_eq!(table, [0, 2, 3, 1]);
+    /// ```
+    pub fn fill_by_number(self, table: &mut [u32]) -> Result<u64, Refusal> {
+        let mut blocks = [0];
+        // SAFETY: the slice and the array are passed with their own lengths.
+        let returned = unsafe { raw::uvalinda_fill_by_number(self.w, self.h, table.as_mut_ptr(), table.len(), blocks.as_mut_ptr(), blocks.len()) };
+        refusal::unless_refused(returned, blocks[0])
+    }
+
+    /// Place y·w + x gets the square's number. Says how many blocks the division has. Refused, with the table as it was:
+    /// [`Refusal::AreaLimit`], then [`Refusal::TableLength`] for a table that has not exactly w·h places.
+    ///
+    /// ```
+    /// # use uvalinda::Area;
+    /// let mut table = [0; 4];
+    /// assert_eq!(Area { w: 2, h: 2 }.fill_by_square(&mut table), Ok(4));
+    /// assert_eq!(table, [0, 3, 1, 2]);
+    /// ```
+    pub fn fill_by_square(self, table: &mut [u32]) -> Result<u64, Refusal> {
+        let mut blocks = [0];
+        // SAFETY: the slice and the array are passed with their own lengths.
+        let returned = unsafe { raw::uvalinda_fill_by_square(self.w, self.h, table.as_mut_ptr(), table.len(), blocks.as_mut_ptr(), blocks.len()) };
+        refusal::unless_refused(returned, blocks[0])
+    }
+
+    /// Whether a table holds what [`Area::fill_by_number`] writes. Refused: [`Refusal::AreaLimit`], then [`Refusal::TableLength`].
+    ///
+    /// ```
+    /// # use uvalinda::{Area, Check};
+    /// assert_eq!(Area { w: 2, h: 2 }.check_by_number(&[0, 2, 3, 1]), Ok(Check::Right));
+    /// assert_eq!(Area { w: 2, h: 2 }.check_by_number(&[0, 2, 9, 9]), Ok(Check::Wrong { place: 2, due: 3 }));
+    /// ```
+    pub fn check_by_number(self, table: &[u32]) -> Result<Check, Refusal> {
+        let mut judged = [0; 3];
+        // SAFETY: the slice and the array are passed with their own lengths.
+        let returned = unsafe { raw::uvalinda_check_by_number(self.w, self.h, table.as_ptr(), table.len(), judged.as_mut_ptr(), judged.len()) };
+        refusal::unless_refused(returned, Check::from(judged))
+    }
+
+    /// Whether a table holds what [`Area::fill_by_square`] writes. Refused: [`Refusal::AreaLimit`], then [`Refusal::TableLength`].
+    ///
+    /// ```
+    /// # use uvalinda::{Area, Check, Refusal};
+    /// assert_eq!(Area { w: 2, h: 2 }.check_by_square(&[0, 3, 1, 2]), Ok(Check::Right));
+    /// assert_eq!(Area { w: 2, h: 2 }.check_by_square(&[]), Err(Refusal::TableLength));
+    /// ```
+    pub fn check_by_square(self, table: &[u32]) -> Result<Check, Refusal> {
+        let mut judged = [0; 3];
+        // SAFETY: the slice and the array are passed with their own lengths.
+        let returned = unsafe { raw::uvalinda_check_by_square(self.w, self.h, table.as_ptr(), table.len(), judged.as_mut_ptr(), judged.len()) };
+        refusal::unless_refused(returned, Check::from(judged))
+    }
+
+    /// The area's squares in the order of their numbers. Refused: [`Refusal::AreaLimit`].
+    ///
+    /// ```
+    /// # use uvalinda::{Area, Square};
+    /// let mut squares = Area { w: 2, h: 2 }.squares().unwrap();
+    /// assert_eq!(squares.len(), 4);
+    /// assert_eq!(squares.nth(1), Some(Square { x: 0, y: 1 }));
+    /// assert_eq!(squares.next_back(), Some(Square { x: 1, y: 0 }));
+    /// ```
+    pub fn squares(self) -> Result<Squares, Refusal> {
+        Squares::of(self)
+    }
+}
+
+impl From<[u32; 3]> for Check {
+    fn from(judged: [u32; 3]) -> Check {
+        match judged {
+            [0, _, _] => Check::Right,
+            [_, place, due] => Check::Wrong { place, due },
+        }
+    }
+}

@@ -1,0 +1,17 @@
+//! The library's C functions, declared as `include/uvalinda.h` declares them: a slice is a pointer and a length.
+//!
+//! # Safety
+//!
+//! Each pointer has as many places as its length says (it may dangle where the length is 0), and what is written to overlaps nothing else that
+//! the same call is lent. Nothing else is asked.
+
+extern "C" {
+    pub fn uvalinda_number_to_square(w: u32, h: u32, number: u32, result: *mut u32, result_length: usize) -> u32;
+    pub fn uvalinda_square_to_number(w: u32, h: u32, x: u32, y: u32, result: *mut u32, result_length: usize) -> u32;
+    pub fn uvalinda_finish_square(w: u32, h: u32, result: *mut u32, result_length: usize) -> u32;
+    pub fn uvalinda_fill_by_number(w: u32, h: u32, table: *mut u32, table_length: usize, blocks: *mut u64, blocks_length: usize) -> u32;
+    pub fn uvalinda_fill_by_square(w: u32, h: u32, table: *mut u32, table_length: usize, blocks: *mut u64, blocks_length: usize) -> u32;
+    pub fn uvalinda_check_by_number(w: u32, h: u32, table: *const u32, table_length: usize, result: *mut u32, result_length: usize) -> u32;
+    pub fn uvalinda_check_by_square(w: u32, h: u32, table: *const u32, table_length: usize, result: *mut u32, result_length: usize) -> u32;
+    pub fn uvalinda_handle_line(w: u32, h: u32, line: *const u8, line_length: usize, result: *mut u32, result_length: usize) -> u32;
+}

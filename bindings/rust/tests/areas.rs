@@ -1,0 +1,78 @@
+//! The bindings as a caller uses them: what a lookup says, what a table holds and what the iterator yields agree.
+use uvalinda::{Area, Check, Clerk, Refusal, Reply, Square};
+
+fn areas() -> impl Iterator<Item = Area> {
+    (1..=12).flat_map(|w| (1..=12).map(move |h| Area { w, h })).chain([Area { w: 65535, h: 3 }, Area { w: 2, h: 65535 }, Area { w: 300, h: 217 }])
+}
+
+#[test]
+fn lookups_undo_each_other() {
+    for area in areas() {
+        for number in (0..area.w * area.h).step_by(7) {
+            let cell = area.number_to_square(number).unwrap();
+            let back = area.square_to_number(cell.x, cell.y).unwrap();
+            assert_eq!((back.number, back.blocks), (number, cell.blocks), "number {number} of {area:?}");
+        }
+    }
+}
+
+#[test]
+fn tables_hold_what_the_iterator_yields() {
+    for area in areas() {
+        let mut by_number = vec![0; (area.w * area.h) as usize];
+        let mut by_square = by_number.clone();
+        assert_eq!(area.fill_by_number(&mut by_number), area.fill_by_square(&mut by_square));
+        let squares = area.squares().unwrap();
+        assert_eq!(squares.len(), by_number.len());
+        for (number, Square { x, y }) in squares.enumerate() {
+            let place = y * area.w + x;
+            assert_eq!(by_number[number], place, "place {number} of {area:?}");
+            assert_eq!(by_square[place as usize], number as u32, "place {place} of {area:?}");
+        }
+        assert_eq!(area.check_by_number(&by_number), Ok(Check::Right));
+        assert_eq!(area.check_by_square(&by_square), Ok(Check::Right));
+    }
+}
+
+#[test]
+fn the_iterator_goes_both_ways() {
+    let area = Area { w: 5, h: 4 };
+    let onward: Vec<Square> = area.squares().unwrap().collect();
+    let mut backward: Vec<Square> = area.squares().unwrap().rev().collect();
+    backward.reverse();
+    assert_eq!(onward, backward);
+    let mut both = area.squares().unwrap();
+    assert_eq!(both.nth(3), Some(onward[3]));
+    assert_eq!(both.nth_back(2), Some(onward[17]));
+    assert_eq!(both.len(), 13);
+    assert_eq!(both.nth(13), None);
+    assert_eq!(both.next(), None);
+}
+
+#[test]
+fn refusals_have_their_numbers() {
+    let area = Area { w: 3, h: 4 };
+    let mut clerk = Clerk::new();
+    let refusals = [
+        Area { w: 65536, h: 1 }.squares().map(|_| ()).unwrap_err(),
+        area.square_to_number(3, 0).unwrap_err(),
+        area.number_to_square(12).unwrap_err(),
+        area.fill_by_square(&mut [0; 11]).unwrap_err(),
+        clerk.handle(b"N 07").unwrap_err(),
+        clerk.handle(b"N").unwrap_err(),
+        clerk.handle(b"N 7").unwrap_err(),
+        clerk.handle(&[b'N'; 65]).unwrap_err(),
+    ];
+    assert_eq!(refusals.map(|refusal| refusal as u32), [1, 2, 3, 4, 5, 6, 7, 8]);
+    assert_eq!(Refusal::TooDeep as u32, 9);
+}
+
+#[test]
+fn an_area_line_is_told_whole() {
+    let mut clerk = Clerk::new();
+    let reply = clerk.handle(b"AREA 65535 65535");
+    let area = Area { w: 65535, h: 65535 };
+    assert_eq!(reply, Ok(Reply::Area { area, squares: 4294836225, finish: Square { x: 65534, y: 0 } }));
+    assert_eq!(clerk.area(), Some(area));
+    assert_eq!(clerk.handle(b"S 65534 0"), area.square_to_number(65534, 0).map(Reply::Number));
+}

@@ -1,0 +1,115 @@
+/*
+ * Uvalinda: numbers the squares of a rectangle along the Gilbert curve.
+ *
+ * An area is w squares wide and h high, each from 1 to 65,535. Its squares are (x, y) with 0 <= x < w and 0 <= y < h; its numbers run from 0 to
+ * w * h - 1. Every call takes any numbers at all and comes to an end; nothing has to be checked before.
+ *
+ * What a call returns: 0, or the number of a refusal (UVALINDA_AREA_LIMIT and so on), or UVALINDA_SHORT_RESULT.
+ *
+ * What a call writes: its values go to the first places of `result` (of `blocks`, for a fill), in the order given with each call. At a refusal
+ * each of them is 0 (but for the area in force, see uvalinda_handle_line), and a table is left as it was. Places behind the values are never
+ * written. Where there are fewer places than values, the call writes nothing, fills nothing and returns UVALINDA_SHORT_RESULT.
+ *
+ * Who owns what: every pointer is lent for the time of the call. The library keeps nothing, allocates nothing and has no state, so calls from
+ * several threads do not disturb each other. A pointer is followed by its length, in places (in bytes, for a line), and may be null where that
+ * length is 0. What the caller has to see to, since C cannot: a pointer has as many places as its length says, and what is written to overlaps
+ * nothing else that the same call was lent.
+ *
+ * Example: where is number 8 of a 3 by 4 area?
+ *
+ *     uint32_t found[UVALINDA_SQUARE_PLACES];
+ *     uint32_t refusal = uvalinda_number_to_square(3, 4, 8, found, UVALINDA_SQUARE_PLACES);
+ *     if (refusal == UVALINDA_ANSWERED) {
+ *         printf("(%u, %u), held by %u blocks\n", found[0], found[1], found[2]); // (2, 1), held by 3 blocks
+ *     } else {
+ *         printf("refused: %u\n", refusal);
+ *     }
+ */
+#ifndef UVALINDA_H
+#define UVALINDA_H
+
+#include <stddef.h>
+#include <stdint.h>
+
+#ifdef __cplusplus
+extern "C" {
+#endif
+
+/* What a call returns. 1 to 9 are the refusals; which of them a call can give is said with the call. */
+#define UVALINDA_ANSWERED 0u        /* not refused */
+#define UVALINDA_AREA_LIMIT 1u      /* w or h is 0 or over 65,535 */
+#define UVALINDA_SQUARE_OUTSIDE 2u  /* x >= w or y >= h */
+#define UVALINDA_NUMBER_OUTSIDE 3u  /* number >= w * h */
+#define UVALINDA_TABLE_LENGTH 4u    /* the table has not exactly w * h places */
+#define UVALINDA_NOT_A_NUMBER 5u    /* a field of a line is not a number */
+#define UVALINDA_WRONG_SHAPE 6u     /* a line has the wrong shape */
+#define UVALINDA_NO_AREA 7u         /* an N or S line with no area in force */
+#define UVALINDA_LONG_LINE 8u       /* a line has over 64 bytes */
+#define UVALINDA_TOO_DEEP 9u        /* over 64 blocks of the division hold a square; proved never to arise */
+#define UVALINDA_SHORT_RESULT 255u  /* `result` or `blocks` is too short: nothing was done */
+
+/* How many values each call writes. */
+#define UVALINDA_SQUARE_PLACES 3u
+#define UVALINDA_NUMBER_PLACES 2u
+#define UVALINDA_FINISH_PLACES 2u
+#define UVALINDA_FILL_PLACES 1u
+#define UVALINDA_CHECK_PLACES 3u
+#define UVALINDA_LINE_PLACES 6u
+
+/* What kind of reply a line got: the third value of uvalinda_handle_line. */
+#define UVALINDA_REPLY_REFUSED 0u
+#define UVALINDA_REPLY_AREA 1u
+#define UVALINDA_REPLY_CELL 2u
+#define UVALINDA_REPLY_NUMBER 3u
+
+/*
+ * The square of a number. Values: x, y, and how many blocks of the division hold the square.
+ * Refusals, in this order: AREA_LIMIT, NUMBER_OUTSIDE, TOO_DEEP.
+ */
+uint32_t uvalinda_number_to_square(uint32_t w, uint32_t h, uint32_t number, uint32_t *result, size_t result_length);
+
+/*
+ * The number of a square. Values: the number, and how many blocks of the division hold the square.
+ * Refusals, in this order: AREA_LIMIT, SQUARE_OUTSIDE, TOO_DEEP.
+ */
+uint32_t uvalinda_square_to_number(uint32_t w, uint32_t h, uint32_t x, uint32_t y, uint32_t *result, size_t result_length);
+
+/*
+ * The finish square of an area. Values: x, y.
+ * Refusal: AREA_LIMIT.
+ */
+uint32_t uvalinda_finish_square(uint32_t w, uint32_t h, uint32_t *result, size_t result_length);
+
+/*
+ * Fills a table of exactly w * h places. By number: place i gets y * w + x of square number i. By square: place y * w + x gets the square's
+ * number. Value, of 64 bits since it can exceed 32: how many blocks the division has.
+ * Refusals, in this order: AREA_LIMIT, TABLE_LENGTH, TOO_DEEP. The table is then as it was, as it is at SHORT_RESULT.
+ */
+uint32_t uvalinda_fill_by_number(uint32_t w, uint32_t h, uint32_t *table, size_t table_length, uint64_t *blocks, size_t blocks_length);
+uint32_t uvalinda_fill_by_square(uint32_t w, uint32_t h, uint32_t *table, size_t table_length, uint64_t *blocks, size_t blocks_length);
+
+/*
+ * Checks a table of exactly w * h places against what the fill of the same kind would write. Values: 0, 0, 0 where it is right; else 1, the
+ * first wrong place, and the value due there.
+ * Refusals, in this order: AREA_LIMIT, TABLE_LENGTH, TOO_DEEP.
+ */
+uint32_t uvalinda_check_by_number(uint32_t w, uint32_t h, const uint32_t *table, size_t table_length, uint32_t *result, size_t result_length);
+uint32_t uvalinda_check_by_square(uint32_t w, uint32_t h, const uint32_t *table, size_t table_length, uint32_t *result, size_t result_length);
+
+/*
+ * Answers one order line: `AREA w h`, `N i` or `S x y`, any bytes, without the newline. The caller keeps the area in force as two numbers,
+ * begins with 0 and 0 for none, and hands on from line to line what the last call left. Numbers that are no accepted area count as none.
+ * Values: w and h of the area in force after the line, 0 and 0 for none, also where the line is refused; then
+ *   UVALINDA_REPLY_AREA, how many squares the area has, x and y of its finish square; or
+ *   UVALINDA_REPLY_CELL, x, y, blocks; or
+ *   UVALINDA_REPLY_NUMBER, number, blocks, 0; or
+ *   UVALINDA_REPLY_REFUSED, 0, 0, 0.
+ * Refusals, in this order: LONG_LINE, WRONG_SHAPE, NOT_A_NUMBER, NO_AREA, then those of the call that the line asks for.
+ */
+uint32_t uvalinda_handle_line(uint32_t w, uint32_t h, const uint8_t *line, size_t line_length, uint32_t *result, size_t result_length);
+
+#ifdef __cplusplus
+}
+#endif
+
+#endif
