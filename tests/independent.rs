@@ -1,12 +1,10 @@
-// What the library should answer, worked out independently: written from document 01 alone, in plain Rust, with no code of the library.
-// `independent traversals` prints what the test program `traversals` prints, and `independent orders` what the program `orders` prints for the same
-// standard input.
-use std::io::Read;
+// What the library should answer, worked out independently: written from document 01 alone, in plain Rust, with no code of the library. The test
+// programs share it.
 
-#[derive(Clone, Copy, PartialEq)]
-struct Square {
-    x: i64,
-    y: i64,
+#[derive(Clone, Copy)]
+pub struct Square {
+    pub x: i64,
+    pub y: i64,
 }
 
 #[derive(Clone, Copy)]
@@ -81,6 +79,11 @@ fn blocks(k: Block) -> Vec<Block> {
     all
 }
 
+// The most blocks that hold one and the same square.
+fn deepest(k: Block) -> i64 {
+    1 + parts(k).into_iter().map(deepest).max().unwrap_or(0)
+}
+
 fn holds(k: Block, s: Square) -> bool {
     let far = moved(moved(k.start, k.run, k.a - 1), k.side, k.b - 1);
     let within = |c: i64, one: i64, other: i64| one.min(other) <= c && c <= one.max(other);
@@ -120,14 +123,21 @@ fn number_of(k: Block, s: Square) -> (i64, i64) {
     panic!("no part holds the square")
 }
 
-// An answer: the refusal's number, or the values.
-type Answer = Result<Vec<i64>, i64>;
+// The squares of an area in the order of their numbers, each with how many of all blocks hold it.
+pub fn traversal(w: i64, h: i64) -> Vec<(Square, i64)> {
+    let all = blocks(whole(w, h));
+    let count = |s: Square| all.iter().filter(|k| holds(**k, s)).count() as i64;
+    curve(whole(w, h)).into_iter().map(|s| (s, count(s))).collect()
+}
 
-fn accepted(w: i64, h: i64) -> bool {
+// An answer: the refusal's number, or the values.
+pub type Answer = Result<Vec<i64>, i64>;
+
+pub fn accepted(w: i64, h: i64) -> bool {
     (1..=65535).contains(&w) && (1..=65535).contains(&h)
 }
 
-fn number_to_square(w: i64, h: i64, number: i64) -> Answer {
+pub fn number_to_square(w: i64, h: i64, number: i64) -> Answer {
     if !accepted(w, h) {
         return Err(1);
     }
@@ -138,7 +148,7 @@ fn number_to_square(w: i64, h: i64, number: i64) -> Answer {
     if count > 64 { Err(9) } else { Ok(vec![s.x, s.y, count]) }
 }
 
-fn square_to_number(w: i64, h: i64, x: i64, y: i64) -> Answer {
+pub fn square_to_number(w: i64, h: i64, x: i64, y: i64) -> Answer {
     if !accepted(w, h) {
         return Err(1);
     }
@@ -149,125 +159,48 @@ fn square_to_number(w: i64, h: i64, x: i64, y: i64) -> Answer {
     if count > 64 { Err(9) } else { Ok(vec![n, count]) }
 }
 
-fn finish_square(w: i64, h: i64) -> Answer {
+pub fn finish_square(w: i64, h: i64) -> Answer {
     if !accepted(w, h) { Err(1) } else { Ok(vec![w - 1, 0]) }
 }
 
-fn mixed(digest: u64, value: i64) -> u64 {
-    (digest * 16777619 + value as u64) % 4294967291
-}
-
-// The digest of an area's answers, from the whole list of its squares and of its blocks.
-fn digest(w: i64, h: i64) -> u64 {
-    let squares = curve(whole(w, h));
-    let all = blocks(whole(w, h));
-    let count = |s: Square| all.iter().filter(|k| holds(**k, s)).count() as i64;
-    let mut digest = 1;
-    for number in 0..=1600 {
-        match squares.get(number) {
-            Some(s) => digest = mixed(mixed(mixed(digest, s.x), s.y), count(*s)),
-            None => digest = mixed(digest, 3),
-        }
-    }
-    for y in 0..=40 {
-        for x in 0..=40 {
-            let s = Square { x, y };
-            match squares.iter().position(|t| *t == s) {
-                Some(number) => digest = mixed(mixed(digest, number as i64), count(s)),
-                None => digest = mixed(digest, 2),
-            }
-        }
-    }
-    digest
-}
-
-// A filled table of either kind, and how many blocks the division has.
-fn filled(w: i64, h: i64, by_square: bool) -> (Vec<i64>, i64) {
+// A table of either kind as it is due.
+pub fn table_due(w: i64, h: i64, by_square: bool) -> Vec<u32> {
     let mut table = vec![0; (w * h) as usize];
     for (number, s) in curve(whole(w, h)).into_iter().enumerate() {
-        let place = s.y * w + s.x;
-        if by_square { table[place as usize] = number as i64 } else { table[number] = place }
+        let place = (s.y * w + s.x) as usize;
+        if by_square { table[place] = number as u32 } else { table[number] = place as u32 }
     }
-    (table, blocks(whole(w, h)).len() as i64)
+    table
 }
 
-// The first wrong place and the value due there, or none.
-fn first_wrong(table: &[i64], due: &[i64]) -> Option<(i64, i64)> {
-    (0..due.len()).find(|&i| table[i] != due[i]).map(|i| (i as i64, due[i]))
-}
-
-// The digest of fills and checks with tables one place too short, one too long, and right.
-fn tables_digest(w: i64, h: i64) -> u64 {
-    let mut digest = 1;
-    for length in [w * h - 1, w * h + 1, w * h] {
-        for by_square in [false, true] {
-            if length != w * h {
-                digest = mixed(digest, 4);
-                digest = (0..length).fold(digest, |d, _| mixed(d, 7));
-                digest = mixed(mixed(digest, 4), 4);
-                continue;
-            }
-            let (table, count) = filled(w, h, by_square);
-            digest = mixed(mixed(digest, 0), count);
-            digest = table.iter().fold(digest, |d, v| mixed(d, *v));
-            for kind in [false, true] {
-                digest = match first_wrong(&table, &filled(w, h, kind).0) {
-                    None => mixed(digest, 0),
-                    Some((place, due)) => mixed(mixed(mixed(digest, 0), place), due),
-                };
-            }
-        }
-    }
-    digest
-}
-
-fn tables() {
-    for w in 1..=40 {
-        for h in 1..=40 {
-            println!("{w} {h} {}", tables_digest(w, h));
-        }
-    }
-    for place in 0..15 {
-        for by_square in [false, true] {
-            let (due, _) = filled(5, 3, by_square);
-            let mut table = due.clone();
-            table[place] = 99;
-            let (wrong, value) = first_wrong(&table, &due).expect("one value is changed");
-            println!("0 {wrong} {value}");
-        }
+// Why a call on a table of this length is refused, if it is.
+fn table_refusal(w: i64, h: i64, length: usize) -> Option<i64> {
+    match () {
+        _ if !accepted(w, h) => Some(1),
+        _ if length as i64 != w * h => Some(4),
+        _ if deepest(whole(w, h)) > 64 => Some(9),
+        _ => None,
     }
 }
 
-fn print(answer: Answer) {
-    match answer {
-        Ok(values) => println!("0 {}", values.iter().map(|v| v.to_string()).collect::<Vec<_>>().join(" ")),
-        Err(refusal) => println!("{refusal}"),
+// A fill's answer: how many blocks the division has.
+pub fn fill(w: i64, h: i64, length: usize) -> Answer {
+    match table_refusal(w, h, length) {
+        Some(refusal) => Err(refusal),
+        None => Ok(vec![blocks(whole(w, h)).len() as i64]),
     }
 }
 
-fn traversals() {
-    for w in 1..=40 {
-        for h in 1..=40 {
-            println!("{w} {h} {}", digest(w, h));
-        }
+// A check's answer: 0, or 1 with the first wrong place and the value due there.
+pub fn check(w: i64, h: i64, by_square: bool, table: &[u32]) -> Answer {
+    if let Some(refusal) = table_refusal(w, h, table.len()) {
+        return Err(refusal);
     }
-    let most = 4294967295;
-    for (w, h, number) in [
-        (65535, 65535, 4294836224), (65535, 65535, 4294836225), (65535, 65535, 1163187540), (4096, 4096, 5592404), (65535, 1, 65534),
-        (1, 65535, 65534), (65536, 1, 0), (0, 5, 0), (5, 0, 0), (most, most, most), (3, 4, 11), (3, 4, 12), (3, 4, most),
-    ] {
-        print(number_to_square(w, h, number));
+    let due = table_due(w, h, by_square);
+    match (0..due.len()).find(|&i| table[i] != due[i]) {
+        None => Ok(vec![0, 0, 0]),
+        Some(i) => Ok(vec![1, i as i64, due[i] as i64]),
     }
-    for (w, h, x, y) in [
-        (65535, 65535, 65534, 0), (65535, 65535, 65534, 65534), (65535, 65535, 16382, 32768), (4096, 4096, 0, 4094), (65535, 65535, 65535, 0),
-        (65535, 65535, 0, 65535), (65536, 1, 0, 0), (0, 5, 0, 0), (0, 5, 9, 9), (3, 4, 2, 0), (3, 4, 3, 0), (3, 4, 0, 4), (3, 4, most, most),
-    ] {
-        print(square_to_number(w, h, x, y));
-    }
-    for (w, h) in [(1, 1), (3, 4), (65535, 65535), (65536, 1), (1, 65536), (0, 0)] {
-        print(finish_square(w, h));
-    }
-    tables();
 }
 
 // A field as a number: 1 to 10 digits, no 0 before others, at most 4,294,967,295.
@@ -278,8 +211,16 @@ fn number(field: &[u8]) -> Option<i64> {
     (value <= 4294967295).then_some(value)
 }
 
-// What a line is answered, and the area in force after it.
-fn answered(line: &[u8], area: Option<(i64, i64)>) -> (Result<String, i64>, Option<(i64, i64)>) {
+// What a line is answered.
+pub enum Reply {
+    Area { w: i64, h: i64, squares: i64, x: i64, y: i64 },
+    Cell { x: i64, y: i64, blocks: i64 },
+    Number { number: i64, blocks: i64 },
+    Refused(i64),
+}
+
+// The reply to a line under an area, and the area in force after it.
+pub fn answered(line: &[u8], area: Option<(i64, i64)>) -> (Reply, Option<(i64, i64)>) {
     let fields: Vec<&[u8]> = line.split(|&b| b == b' ').collect();
     let after_refusal = if line.starts_with(b"AREA") { None } else { area };
     let shaped = matches!((fields[0], fields.len()), (b"AREA", 3) | (b"N", 2) | (b"S", 3)) && fields.iter().all(|f| !f.is_empty());
@@ -290,47 +231,13 @@ fn answered(line: &[u8], area: Option<(i64, i64)>) -> (Result<String, i64>, Opti
         (_, _, None, ..) => Err(5),
         (_, _, Some(n), b"AREA", _) => {
             return match finish_square(n[0], n[1]) {
-                Ok(s) => (Ok(format!("AREA {} {} {} {} {}", n[0], n[1], n[0] * n[1], s[0], s[1])), Some((n[0], n[1]))),
-                Err(refusal) => (Err(refusal), None),
+                Ok(s) => (Reply::Area { w: n[0], h: n[1], squares: n[0] * n[1], x: s[0], y: s[1] }, Some((n[0], n[1]))),
+                Err(refusal) => (Reply::Refused(refusal), None),
             };
         }
         (.., None) => Err(7),
-        (_, _, Some(n), b"N", Some((w, h))) => number_to_square(w, h, n[0]).map(|v| format!("CELL {} {} {}", v[0], v[1], v[2])),
-        (_, _, Some(n), _, Some((w, h))) => square_to_number(w, h, n[0], n[1]).map(|v| format!("NUMBER {} {}", v[0], v[1])),
+        (_, _, Some(n), b"N", Some((w, h))) => number_to_square(w, h, n[0]).map(|v| Reply::Cell { x: v[0], y: v[1], blocks: v[2] }),
+        (_, _, Some(n), _, Some((w, h))) => square_to_number(w, h, n[0], n[1]).map(|v| Reply::Number { number: v[0], blocks: v[1] }),
     };
-    (answer, after_refusal)
-}
-
-// What the program `orders` prints for standard input.
-fn orders() {
-    let mut input = Vec::new();
-    std::io::stdin().read_to_end(&mut input).expect("standard input can be read");
-    let mut lines: Vec<&[u8]> = input.split(|&b| b == b'\n').collect();
-    if lines.last().is_some_and(|last| last.is_empty()) {
-        lines.pop();
-    }
-    let mut area = None;
-    for (i, line) in lines.into_iter().enumerate() {
-        if i + 1 == 65536 {
-            println!("65536 STOP");
-            return;
-        }
-        let answer;
-        (answer, area) = answered(line, area);
-        match answer {
-            Ok(text) => println!("{} {text}", i + 1),
-            Err(refusal) => println!("{} REFUSED {refusal}", i + 1),
-        }
-    }
-}
-
-fn main() {
-    match std::env::args().nth(1).as_deref() {
-        Some("traversals") => traversals(),
-        Some("orders") => orders(),
-        _ => {
-            eprintln!("usage: independent traversals | orders");
-            std::process::exit(2);
-        }
-    }
+    (answer.unwrap_or_else(Reply::Refused), after_refusal)
 }

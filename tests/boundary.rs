@@ -1,0 +1,236 @@
+// boundary SEED: the library's C functions against the independent reading of document 01: every area up to 40 by 40 whole, and random and hostile
+// arguments by the hundred thousand. The seed is printed, and what was asked, where an answer differs.
+mod independent;
+mod random;
+#[path = "../bindings/rust/src/raw.rs"]
+mod raw;
+
+use independent::{Answer, Reply};
+use random::Random;
+
+const UNTOUCHED: u32 = 0xDEAD_BEEF;
+const SHORT: u32 = 255;
+const MOST: u64 = 4294967295;
+
+// What a call with a result slice of this length should return and leave in it, given the answer that is due and how many values it has.
+fn due(answer: &Answer, values: usize, length: usize) -> (u32, Vec<u64>) {
+    let mut left = vec![UNTOUCHED as u64; length];
+    if length < values {
+        return (SHORT, left);
+    }
+    let (returned, figures) = match answer {
+        Ok(figures) => (0, figures.clone()),
+        Err(refusal) => (*refusal as u32, vec![0; values]),
+    };
+    for (place, figure) in left.iter_mut().zip(figures) {
+        *place = figure as u64;
+    }
+    (returned, left)
+}
+
+// A slice for results, and what a call left in it.
+fn result(length: usize) -> Vec<u32> {
+    vec![UNTOUCHED; length]
+}
+
+fn told(returned: u32, result: Vec<u32>) -> (u32, Vec<u64>) {
+    (returned, result.into_iter().map(u64::from).collect())
+}
+
+// SAFETY, here and below: each slice is passed with its own length, and no two of them overlap.
+fn number_to_square(w: u32, h: u32, number: u32, length: usize) -> (u32, Vec<u64>) {
+    let mut out = result(length);
+    let returned = unsafe { raw::uvalinda_number_to_square(w, h, number, out.as_mut_ptr(), length) };
+    told(returned, out)
+}
+
+fn square_to_number(w: u32, h: u32, x: u32, y: u32, length: usize) -> (u32, Vec<u64>) {
+    let mut out = result(length);
+    let returned = unsafe { raw::uvalinda_square_to_number(w, h, x, y, out.as_mut_ptr(), length) };
+    told(returned, out)
+}
+
+fn finish_square(w: u32, h: u32, length: usize) -> (u32, Vec<u64>) {
+    let mut out = result(length);
+    let returned = unsafe { raw::uvalinda_finish_square(w, h, out.as_mut_ptr(), length) };
+    told(returned, out)
+}
+
+fn fill(w: u32, h: u32, by_square: bool, table: &mut [u32], length: usize) -> (u32, Vec<u64>) {
+    let mut out = vec![UNTOUCHED as u64; length];
+    let call = if by_square { raw::uvalinda_fill_by_square } else { raw::uvalinda_fill_by_number };
+    let returned = unsafe { call(w, h, table.as_mut_ptr(), table.len(), out.as_mut_ptr(), length) };
+    (returned, out)
+}
+
+fn check(w: u32, h: u32, by_square: bool, table: &[u32], length: usize) -> (u32, Vec<u64>) {
+    let mut out = result(length);
+    let call = if by_square { raw::uvalinda_check_by_square } else { raw::uvalinda_check_by_number };
+    let returned = unsafe { call(w, h, table.as_ptr(), table.len(), out.as_mut_ptr(), length) };
+    told(returned, out)
+}
+
+fn handle_line(w: u32, h: u32, line: &[u8], length: usize) -> (u32, Vec<u64>) {
+    let mut out = result(length);
+    let returned = unsafe { raw::uvalinda_handle_line(w, h, line.as_ptr(), line.len(), out.as_mut_ptr(), length) };
+    told(returned, out)
+}
+
+// Every number and every square of an area, and those past its ends, against the whole list of its squares.
+fn whole_area(w: u32, h: u32) {
+    let traversal = independent::traversal(w as i64, h as i64);
+    let mut numbers = vec![vec![Err(2); 42]; 42];
+    for (number, (s, blocks)) in traversal.iter().enumerate() {
+        numbers[s.x as usize][s.y as usize] = Ok(vec![number as i64, *blocks]);
+    }
+    for number in 0..=1601 {
+        let answer = traversal.get(number).map_or(Err(3), |(s, blocks)| Ok(vec![s.x, s.y, *blocks]));
+        assert_eq!(number_to_square(w, h, number as u32, 4), due(&answer, 3, 4), "number {number} of {w} by {h}");
+    }
+    for (x, column) in numbers.iter().enumerate() {
+        for (y, answer) in column.iter().enumerate() {
+            assert_eq!(square_to_number(w, h, x as u32, y as u32, 3), due(answer, 2, 3), "square ({x}, {y}) of {w} by {h}");
+        }
+    }
+}
+
+// Fills and checks of a table of some length, of both kinds, with a result slice of some length, and checks of the table with one value changed.
+fn tables(random: &mut Random, w: u32, h: u32, places: usize, length: usize) {
+    let (wide, high) = (w as i64, h as i64);
+    for by_square in [false, true] {
+        let asked = format!("{w} by {h}, {places} places, by square: {by_square}, {length} places for the result");
+        let mut table = vec![UNTOUCHED; places];
+        let answer = independent::fill(wide, high, places);
+        let after = if answer.is_ok() && length >= 1 { independent::table_due(wide, high, by_square) } else { table.clone() };
+        assert_eq!(fill(w, h, by_square, &mut table, length), due(&answer, 1, length), "fill of {asked}");
+        assert!(table == after, "the table after a fill of {asked}");
+        for changed in [false, true] {
+            if changed && places > 0 {
+                let place = random.below(places as u64) as usize;
+                table[place] = random.of(&[0, table[place] ^ 1, MOST as u32]);
+            }
+            for kind in [false, true] {
+                let answer = independent::check(wide, high, kind, &table);
+                assert_eq!(check(w, h, kind, &table, length), due(&answer, 3, length), "check of {asked}, changed: {changed}, as by square: {kind}");
+            }
+        }
+    }
+}
+
+// Document 01's cases for areas too large to list, with the values that it gives, and the squares that most blocks hold.
+fn worked_cases() {
+    let found = |w, h, number| number_to_square(w, h, number, 3).1;
+    assert_eq!(found(65535, 65535, 4294836224)[..2], [65534, 0]);
+    assert_eq!(found(65535, 65535, 1163187540), [16382, 32768, 31]);
+    assert_eq!(found(4096, 4096, 5592404), [0, 4094, 24]);
+    assert_eq!(square_to_number(65535, 65535, 16382, 32768, 2), (0, vec![1163187540, 31]));
+    assert_eq!(square_to_number(4096, 4096, 0, 4094, 2), (0, vec![5592404, 24]));
+    assert_eq!(number_to_square(65536, 1, 0, 3), (1, vec![0, 0, 0]));
+    assert_eq!(number_to_square(0, 5, 0, 3), (1, vec![0, 0, 0]));
+    for places in [11, 13] {
+        assert_eq!(fill(3, 4, false, &mut vec![7; places], 1), (4, vec![0]));
+    }
+}
+
+// A side of an area: an end of the range, past it, or anything.
+fn side(random: &mut Random) -> u32 {
+    match random.below(4) {
+        0 => random.of(&[0, 1, 2, 3, 65534, 65535, 65536, 65537, 1 << 31, MOST as u32]),
+        1 => random.below(20) as u32,
+        2 => random.below(MOST + 1) as u32,
+        _ => random.below(65536) as u32,
+    }
+}
+
+// A number near an end of 0 to n - 1, or anywhere.
+fn near(random: &mut Random, n: u64) -> u32 {
+    match random.below(4) {
+        0 => random.of(&[0, 1, n.wrapping_sub(2), n.wrapping_sub(1), n, n + 1, MOST]).min(MOST) as u32,
+        1 => random.below(MOST + 1) as u32,
+        _ => random.below(n.max(1)).min(MOST) as u32,
+    }
+}
+
+fn lookup(random: &mut Random) {
+    let (w, h) = (side(random), side(random));
+    let (wide, high) = (w as i64, h as i64);
+    let length = random.below(6) as usize;
+    let number = near(random, w as u64 * h as u64);
+    let answer = independent::number_to_square(wide, high, number as i64);
+    assert_eq!(number_to_square(w, h, number, length), due(&answer, 3, length), "number {number} of {w} by {h} into {length} places");
+    let (x, y) = (near(random, w as u64), near(random, h as u64));
+    let answer = independent::square_to_number(wide, high, x as i64, y as i64);
+    assert_eq!(square_to_number(w, h, x, y, length), due(&answer, 2, length), "square ({x}, {y}) of {w} by {h} into {length} places");
+    let answer = independent::finish_square(wide, high);
+    assert_eq!(finish_square(w, h, length), due(&answer, 2, length), "finish square of {w} by {h} into {length} places");
+}
+
+// Tables of hostile areas; lengths 0, one short, one long and right where the table is not too large to make.
+fn hostile_tables(random: &mut Random) {
+    let (w, h) = match random.below(4) {
+        0 => (side(random), side(random)),
+        _ => (random.below(25) as u32, random.below(25) as u32),
+    };
+    let squares = w as usize * h as usize;
+    let places = random.of(&[0, squares.saturating_sub(1), squares, squares, squares + 1]);
+    let length = random.below(5) as usize;
+    tables(random, w, h, if places > 5_000 { 7 } else { places }, length);
+}
+
+// A random line under the area that the last one left, or under any numbers at all. The area in force after it is handed on.
+fn line(random: &mut Random, (w, h): (u32, u32)) -> (u32, u32) {
+    let (w, h) = if random.below(8) == 0 { (side(random), side(random)) } else { (w, h) };
+    let line = random::line(random);
+    let (wide, high) = (w as i64, h as i64);
+    let (reply, area) = independent::answered(&line, independent::accepted(wide, high).then_some((wide, high)));
+    let after = area.unwrap_or((0, 0));
+    let (returned, figures) = match reply {
+        Reply::Area { w, h, squares, x, y } => (0, [w, h, 1, squares, x, y]),
+        Reply::Cell { x, y, blocks } => (0, [after.0, after.1, 2, x, y, blocks]),
+        Reply::Number { number, blocks } => (0, [after.0, after.1, 3, number, blocks, 0]),
+        Reply::Refused(refusal) => (refusal as u32, [after.0, after.1, 0, 0, 0, 0]),
+    };
+    let text = String::from_utf8_lossy(&line);
+    let length = if random.below(4) == 0 { random.below(9) as usize } else { 8 };
+    let mut left = vec![UNTOUCHED as u64; length];
+    if length < 6 {
+        assert_eq!(handle_line(w, h, &line, length), (SHORT, left), "line {text:?} under {w} by {h} into {length} places");
+        return (w, h);
+    }
+    for (place, figure) in left.iter_mut().zip(figures) {
+        *place = figure as u64;
+    }
+    assert_eq!(handle_line(w, h, &line, length), (returned, left), "line {text:?} under {w} by {h} into {length} places");
+    (after.0 as u32, after.1 as u32)
+}
+
+fn main() {
+    let seed = std::env::args().nth(1).map_or(1, |word| word.parse().expect("a seed"));
+    println!("boundary: seed {seed}");
+    let mut random = Random::from(seed);
+    worked_cases();
+    for w in 1..=40 {
+        for h in 1..=40 {
+            whole_area(w, h);
+            let squares = w as usize * h as usize;
+            for places in [0, squares - 1, squares + 1, squares] {
+                tables(&mut random, w, h, places, 4);
+            }
+        }
+    }
+    println!("boundary: every area up to 40 by 40, its lookups and its tables, as the independent program has them");
+    for (w, h) in [(65535, 1), (1, 65535), (65535, 2), (3, 65535), (300, 200), (181, 359), (512, 512)] {
+        tables(&mut random, w, h, w as usize * h as usize, 4);
+    }
+    for _ in 0..300_000 {
+        lookup(&mut random);
+    }
+    for _ in 0..20_000 {
+        hostile_tables(&mut random);
+    }
+    let mut area = (0, 0);
+    for _ in 0..300_000 {
+        area = line(&mut random, area);
+    }
+    println!("boundary: 900000 random lookups, 200000 calls on tables and 300000 lines, as the independent program has them");
+}

@@ -1,0 +1,82 @@
+/*
+ * The header as a C program and as a C++ program see it: every function called once answered and once refused, with document 01's worked
+ * cases, and with nothing where nothing is asked.
+ */
+#include "uvalinda.h"
+
+#include <stdio.h>
+#include <string.h>
+
+static int wrong = 0;
+
+static void expect(int holds, const char *what) {
+    if (!holds) {
+        printf("header: not so: %s\n", what);
+        wrong = 1;
+    }
+}
+
+#define EXPECT(fact) expect((fact), #fact)
+
+static void lookups(void) {
+    uint32_t found[UVALINDA_SQUARE_PLACES];
+    EXPECT(uvalinda_number_to_square(3, 4, 8, found, UVALINDA_SQUARE_PLACES) == UVALINDA_ANSWERED);
+    EXPECT(found[0] == 2 && found[1] == 1 && found[2] == 3);
+    EXPECT(uvalinda_number_to_square(3, 4, 12, found, UVALINDA_SQUARE_PLACES) == UVALINDA_NUMBER_OUTSIDE);
+    EXPECT(found[0] == 0 && found[1] == 0 && found[2] == 0);
+    EXPECT(uvalinda_number_to_square(65536, 1, 0, found, UVALINDA_SQUARE_PLACES) == UVALINDA_AREA_LIMIT);
+    EXPECT(uvalinda_number_to_square(3, 4, 8, NULL, 0) == UVALINDA_SHORT_RESULT);
+    EXPECT(uvalinda_square_to_number(4, 3, 2, 1, found, UVALINDA_NUMBER_PLACES) == UVALINDA_ANSWERED);
+    EXPECT(found[0] == 9 && found[1] == 3);
+    EXPECT(uvalinda_square_to_number(4, 3, 4, 0, found, UVALINDA_NUMBER_PLACES) == UVALINDA_SQUARE_OUTSIDE);
+    EXPECT(uvalinda_finish_square(65535, 65535, found, UVALINDA_FINISH_PLACES) == UVALINDA_ANSWERED);
+    EXPECT(found[0] == 65534 && found[1] == 0);
+    EXPECT(uvalinda_finish_square(0, 5, NULL, 0) == UVALINDA_SHORT_RESULT);
+}
+
+static void tables(void) {
+    static const uint32_t due[12] = {0, 3, 6, 9, 10, 11, 8, 7, 5, 4, 1, 2};
+    uint32_t table[12], judged[UVALINDA_CHECK_PLACES];
+    uint64_t blocks[UVALINDA_FILL_PLACES];
+    EXPECT(uvalinda_fill_by_number(3, 4, table, 12, blocks, UVALINDA_FILL_PLACES) == UVALINDA_ANSWERED);
+    EXPECT(blocks[0] == 10 && memcmp(table, due, sizeof due) == 0);
+    EXPECT(uvalinda_check_by_number(3, 4, table, 12, judged, UVALINDA_CHECK_PLACES) == UVALINDA_ANSWERED);
+    EXPECT(judged[0] == 0 && judged[1] == 0 && judged[2] == 0);
+    EXPECT(uvalinda_check_by_square(3, 4, table, 12, judged, UVALINDA_CHECK_PLACES) == UVALINDA_ANSWERED);
+    EXPECT(judged[0] == 1 && judged[1] == 1 && judged[2] == 10);
+    EXPECT(uvalinda_fill_by_square(3, 4, table, 11, blocks, UVALINDA_FILL_PLACES) == UVALINDA_TABLE_LENGTH);
+    EXPECT(blocks[0] == 0 && memcmp(table, due, sizeof due) == 0);
+    EXPECT(uvalinda_fill_by_square(3, 4, table, 12, NULL, 0) == UVALINDA_SHORT_RESULT);
+    EXPECT(memcmp(table, due, sizeof due) == 0);
+    EXPECT(uvalinda_fill_by_square(3, 4, NULL, 0, blocks, UVALINDA_FILL_PLACES) == UVALINDA_TABLE_LENGTH);
+}
+
+/* One line of an order form, under the area that the line before it left. */
+static uint32_t handle(const char *line, uint32_t *now) {
+    return uvalinda_handle_line(now[0], now[1], (const uint8_t *)line, strlen(line), now, UVALINDA_LINE_PLACES);
+}
+
+static void lines(void) {
+    uint32_t now[UVALINDA_LINE_PLACES] = {0, 0, 0, 0, 0, 0};
+    EXPECT(handle("N 8", now) == UVALINDA_NO_AREA);
+    EXPECT(handle("AREA 3 4", now) == UVALINDA_ANSWERED);
+    EXPECT(now[0] == 3 && now[1] == 4 && now[2] == UVALINDA_REPLY_AREA && now[3] == 12 && now[4] == 2 && now[5] == 0);
+    EXPECT(handle("N 8", now) == UVALINDA_ANSWERED);
+    EXPECT(now[2] == UVALINDA_REPLY_CELL && now[3] == 2 && now[4] == 1 && now[5] == 3);
+    EXPECT(handle("S 2 1", now) == UVALINDA_ANSWERED);
+    EXPECT(now[2] == UVALINDA_REPLY_NUMBER && now[3] == 8 && now[4] == 3 && now[5] == 0);
+    EXPECT(handle("N 3E4", now) == UVALINDA_NOT_A_NUMBER);
+    EXPECT(now[0] == 3 && now[1] == 4 && now[2] == UVALINDA_REPLY_REFUSED && now[3] == 0 && now[4] == 0 && now[5] == 0);
+    EXPECT(handle("", now) == UVALINDA_WRONG_SHAPE);
+    EXPECT(handle("N 00000000000000000000000000000000000000000000000000000000000000000", now) == UVALINDA_LONG_LINE);
+    EXPECT(handle("AREA 0 4", now) == UVALINDA_AREA_LIMIT);
+    EXPECT(now[0] == 0 && now[1] == 0);
+    EXPECT(uvalinda_handle_line(3, 4, NULL, 0, now, UVALINDA_LINE_PLACES) == UVALINDA_WRONG_SHAPE);
+}
+
+int main(void) {
+    lookups();
+    tables();
+    lines();
+    return wrong;
+}
