@@ -15,7 +15,8 @@ use Rattle.division.proofs.Blocks.{whole-inside, at-most-54}
 use Rattle.division.proofs.Local.{Within, whole-holds, whole-within}
 use Rattle.division.proofs.Walks.{product-limit}
 use Rattle.division.specs.Forms.{block-at}
-use Rattle.curve.specs.Descents.{spot-at, Descends, descent-word, Searches, search-word}
+use Rattle.descents.specs.Descents.{Descends, descent-word}
+use Rattle.searches.specs.Searches.{spot-at, Searches, search-word}
 use Rattle.curve.specs.Lookups.{number-to-square, square-to-number, finish-square}
 
 -- a word's parts

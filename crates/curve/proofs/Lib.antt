@@ -1,4 +1,2 @@
-pub mod Into
-pub mod Toward
 pub mod Answers
 pub mod Promises

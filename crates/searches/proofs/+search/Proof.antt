@@ -1,20 +1,20 @@
--- `curve::search` meets its contract, by the laws of `Toward`: a straight block is answered, a cut one is what its part's call says.
+-- `searches::search` meets its contract, by the laws of `Toward`: a straight block is answered, a cut one is what its part's call says.
 -- The measure is the block's area, which falls.
 use mathlib.Core.Path.{sym, subst, _∙_}
 use Prim.Native.Nat.{ℕ, _*_, _<_}
 use native.Mathlib.Omega.{arith}
-use Rattle.curve.proofs.Toward.{along-fits, across-fits, run-count, run-word, side-count, side-word, next-search, next-word}
+use Rattle.searches.proofs.Toward.{along-fits, across-fits, run-count, run-word, side-count, side-word, next-search, next-word}
 use borrow.Fn.Kinds.{In}
 use borrow.Fn.PlainCycle.{Measures, is, falls, and}
-use Rattle.curve.proofs.search.Reads as search′
-use Rattle.curve.proofs.search.Kinds as search-kinds
-use Rattle.curve.proofs.+search.Lts-search as search-lts
-use Rattle.curve.proofs.long_at.Reads as long-at-reads
-use Rattle.curve.proofs.number_word.Reads as number-word-reads
-use Rattle.curve.proofs.u_at.Reads as u-at-reads
+use Rattle.searches.proofs.search.Reads as search′
+use Rattle.searches.proofs.search.Kinds as search-kinds
+use Rattle.searches.proofs.+search.Lts-search as search-lts
+use Rattle.searches.proofs.long_at.Reads as long-at-reads
+use Rattle.searches.proofs.number_word.Reads as number-word-reads
+use Rattle.searches.proofs.u_at.Reads as u-at-reads
 use Rattle.division.proofs.choose.Reads as choose-reads
-use Rattle.curve.proofs.+search.{statement}
-use Rattle.curve.proofs.+search.Tie.{close}
+use Rattle.searches.proofs.+search.{statement}
+use Rattle.searches.proofs.+search.Tie.{close}
 
 abbrev μ-search : Measures 0 search-kinds.ps ℕ
 μ-search κs a = a .0 * a .1 .0

@@ -1,12 +1,12 @@
--- `curve::square_word` meets its contract: the choice of x and y by the bit is the choice of the square.
+-- `descents::square_word` meets its contract: the choice of x and y by the bit is the choice of the square.
 use borrow.Author.Needs.{needs}
 use mathlib.Core.Bool.{Bool, true, false, cond}
 use mathlib.Core.Path.{_≡_, refl, ap₂, _∙_}
 use Prim.Native.Nat.{ℕ, _+_, _*_}
 use Rattle.division.specs.Division.{square}
-use Rattle.curve.specs.Descents.{square-word}
-use Rattle.curve.proofs.square_word.Statement.{statement}
-use Rattle.curve.proofs.square_word.Tie as tie
+use Rattle.descents.specs.Descents.{square-word}
+use Rattle.descents.proofs.square_word.Statement.{statement}
+use Rattle.descents.proofs.square_word.Tie as tie
 
 word-by : (along across blocks : ℕ) (turned : Bool)
     → (cond turned across along * 65536 + cond turned along across) * 256 + blocks ≡ square-word (cond turned (square across along) (square along across)) blocks

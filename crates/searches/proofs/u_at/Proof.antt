@@ -1,11 +1,11 @@
--- `curve::u_at` meets its contract: the tests on v and u name the part, and the numbers before it are those of the parts before.
+-- `searches::u_at` meets its contract: the tests on v and u name the part, and the numbers before it are those of the parts before.
 use borrow.Author.Needs.{needs}
 use Prim.Native.Nat.{ℕ}
 use mathlib.Core.Path.{subst}
 use Prim.Native.Nat.{_≤_}
-use Rattle.curve.proofs.Toward.{u-two, spot-sums, a-leads, b-leads, c-leads}
-use Rattle.curve.proofs.u_at.Statement.{statement}
-use Rattle.curve.proofs.u_at.Tie as tie
+use Rattle.searches.proofs.Toward.{u-two, spot-sums, a-leads, b-leads, c-leads}
+use Rattle.searches.proofs.u_at.Statement.{statement}
+use Rattle.searches.proofs.u_at.Tie as tie
 
 even-half-requires : tie.Need-even-half-requires
 even-half-requires c κs = search needs

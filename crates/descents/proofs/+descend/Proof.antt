@@ -1,4 +1,4 @@
--- `curve::descend` meets its contract, by the laws of `Into`: a straight block is answered, a cut one is what its part's call says.
+-- `descents::descend` meets its contract, by the laws of `Into`: a straight block is answered, a cut one is what its part's call says.
 -- The measure is the block's area, which falls.
 use mathlib.Core.Bool.{Bool}
 use mathlib.Core.Logic.{_⊎_, inl, inr}
@@ -8,18 +8,18 @@ use native.Mathlib.Omega.{arith}
 use Rattle.division.specs.declared.Placed.{Placed}
 use Rattle.division.specs.Forms.{block}
 use Rattle.division.proofs.Walks.{a-limit, b-limit, steps-along, steps-across}
-use Rattle.curve.proofs.Into.{not-straight, run-below, run-count, run-word, side-below, side-count, side-word, next-descent, next-count, next-word}
+use Rattle.descents.proofs.Into.{not-straight, run-below, run-count, run-word, side-below, side-count, side-word, next-descent, next-count, next-word}
 use borrow.Fn.Kinds.{In}
 use borrow.Fn.PlainCycle.{Measures, is, falls, and}
-use Rattle.curve.proofs.descend.Reads as descend
-use Rattle.curve.proofs.descend.Kinds as descend-kinds
-use Rattle.curve.proofs.+descend.Lts-descend as descend-lts
-use Rattle.curve.proofs.part_with.Reads as part-with-reads
-use Rattle.curve.proofs.run_word.Reads as run-word-reads
-use Rattle.curve.proofs.side_word.Reads as side-word-reads
+use Rattle.descents.proofs.descend.Reads as descend
+use Rattle.descents.proofs.descend.Kinds as descend-kinds
+use Rattle.descents.proofs.+descend.Lts-descend as descend-lts
+use Rattle.descents.proofs.part_with.Reads as part-with-reads
+use Rattle.descents.proofs.run_word.Reads as run-word-reads
+use Rattle.descents.proofs.side_word.Reads as side-word-reads
 use Rattle.division.proofs.choose.Reads as choose-reads
-use Rattle.curve.proofs.+descend.{statement}
-use Rattle.curve.proofs.+descend.Tie.{close}
+use Rattle.descents.proofs.+descend.{statement}
+use Rattle.descents.proofs.+descend.Tie.{close}
 
 -- the block of the parameters
 abbrev placed : (along across : ℕ) (turned back : Bool) (a b : ℕ) → Placed

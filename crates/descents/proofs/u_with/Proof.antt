@@ -1,14 +1,14 @@
--- `curve::u_with` meets its contract: each part has the numbers from the sum of those before it up to its own sum.
+-- `descents::u_with` meets its contract: each part has the numbers from the sum of those before it up to its own sum.
 use borrow.Author.Needs.{needs}
 use mathlib.Core.Path.{sym, subst, subst⁻¹}
 use Prim.Native.Nat.{ℕ, _+_, _-_, _*_, _/_, _≤_, _<_}
 use native.Mathlib.Omega.{arith}
 use Rattle.division.specs.Division.{Block, B, C, part}
 use Rattle.division.specs.Forms.{block}
-use Rattle.curve.specs.Descents.{Enters}
-use Rattle.curve.proofs.Into.{block-sums, a-enters, b-enters, c-enters}
-use Rattle.curve.proofs.u_with.Statement.{statement}
-use Rattle.curve.proofs.u_with.Tie as tie
+use Rattle.descents.specs.Descents.{Enters}
+use Rattle.descents.proofs.Into.{block-sums, a-enters, b-enters, c-enters}
+use Rattle.descents.proofs.u_with.Statement.{statement}
+use Rattle.descents.proofs.u_with.Tie as tie
 
 even-half-requires : tie.Need-even-half-requires
 even-half-requires c κs = search needs

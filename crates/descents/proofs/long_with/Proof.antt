@@ -1,4 +1,4 @@
--- `curve::long_with` meets its contract: numbers below those of the first part are its own, the others less those are the second's.
+-- `descents::long_with` meets its contract: numbers below those of the first part are its own, the others less those are the second's.
 use borrow.Author.Needs.{needs}
 use mathlib.Core.Bool.{cond}
 use mathlib.Core.Path.{_≡_, sym, ap, subst, _∙_}
@@ -9,10 +9,10 @@ use Rattle.division.specs.Division.{Block, even-half, First, Second, part}
 use Rattle.division.specs.Division.Rules.{halves, long-lengths}
 use Rattle.division.specs.Forms.{block}
 use Rattle.division.proofs.Walks.{a-limit, b-limit, product-limit}
-use Rattle.curve.specs.Descents.{Enters}
-use Rattle.curve.proofs.Into.{rest-of, long-enters}
-use Rattle.curve.proofs.long_with.Statement.{statement}
-use Rattle.curve.proofs.long_with.Tie as tie
+use Rattle.descents.specs.Descents.{Enters}
+use Rattle.descents.proofs.Into.{rest-of, long-enters}
+use Rattle.descents.proofs.long_with.Statement.{statement}
+use Rattle.descents.proofs.long_with.Tie as tie
 
 even-half-requires : tie.Need-even-half-requires
 even-half-requires c κs = search needs

@@ -1,9 +1,9 @@
--- `curve::run_word` meets its contract: the step is along the run's axis, which the bit names.
+-- `descents::run_word` meets its contract: the step is along the run's axis, which the bit names.
 use borrow.Author.Needs.{needs}
 use mathlib.Core.Path.{_∙_}
-use Rattle.curve.proofs.Into.{run-stepped}
-use Rattle.curve.proofs.run_word.Statement.{statement}
-use Rattle.curve.proofs.run_word.Tie as tie
+use Rattle.descents.proofs.Into.{run-stepped}
+use Rattle.descents.proofs.run_word.Statement.{statement}
+use Rattle.descents.proofs.run_word.Tie as tie
 
 stepped-requires : tie.Need-stepped-requires
 stepped-requires c κs = search needs

@@ -1,4 +1,4 @@
--- `curve::long_at` meets its contract: the numbers before the part are what was taken off u, 0 or the even half, times the side.
+-- `searches::long_at` meets its contract: the numbers before the part are what was taken off u, 0 or the even half, times the side.
 use mathlib.Core.Bool.{Bool, true, false, cond}
 use mathlib.Core.Path.{_≡_, sym, subst}
 use Prim.Native.Nat.{_-_, _*_, _≤_}
@@ -8,9 +8,9 @@ use lib.Dec.{ltb}
 use Rattle.division.specs.declared.Spot.{Spot}
 use Rattle.division.specs.Division.{even-half, First, Second}
 use Rattle.division.specs.Forms.{entered}
-use Rattle.curve.proofs.Toward.{long-two, long-leads}
-use Rattle.curve.proofs.long_at.Statement.{statement}
-use Rattle.curve.proofs.long_at.Tie as tie
+use Rattle.searches.proofs.Toward.{long-two, long-leads}
+use Rattle.searches.proofs.long_at.Statement.{statement}
+use Rattle.searches.proofs.long_at.Tie as tie
 
 -- what is taken off u leaves no less than 0
 less-by : (s : Spot) (first : Bool) → entered (cond first First Second) s .u ≤ s .u

@@ -1,13 +1,13 @@
--- `curve::part_with` meets its contract: a block with both lengths from 2 on that is not cut the long way is cut the other.
+-- `descents::part_with` meets its contract: a block with both lengths from 2 on that is not cut the long way is cut the other.
 use borrow.Author.Needs.{needs}
 use mathlib.Core.Logic.{_⊎_, inl, inr}
 use mathlib.Core.Path.{_≡_, refl, sym, _∙_}
 use Prim.Native.Nat.{ℕ}
 use native.Mathlib.Omega.{arith}
 use Rattle.division.specs.Forms.{block}
-use Rattle.curve.proofs.Into.{not-long}
-use Rattle.curve.proofs.part_with.Statement.{statement}
-use Rattle.curve.proofs.part_with.Tie as tie
+use Rattle.descents.proofs.Into.{not-long}
+use Rattle.descents.proofs.part_with.Statement.{statement}
+use Rattle.descents.proofs.part_with.Tie as tie
 
 -- the number of a case that is none of the long cut's
 other : (n : ℕ) → (n ≡ 0) ⊎ ((n ≡ 1) ⊎ (n ≡ 3)) → n ≡ 2 → ⊥

@@ -1,36 +1,15 @@
--- What the two descents below the lookups ask and return. Each returns a word: a square or a number, and a count of blocks below 256.
+-- What a search asks and returns, and each step of it. It returns a word: a number and a count of blocks below 256.
 use mathlib.Core.Path.{_≡_}
 use Prim.Native.Nat.{ℕ, suc, _+_, _*_, _≤_, _<_}
 use Rattle.division.specs.declared.Spot.{Spot}
-use Rattle.division.specs.Division.{Square, square, Block, whole, square-of, number-of, blocks-holding}
-use Rattle.division.specs.Division.Inside.{Inside}
-
-abbrev pub square-word : Square → ℕ → ℕ
-square-word s blocks = (s .x * 65536 + s .y) * 256 + blocks
+use Rattle.division.specs.Division.{square, whole, number-of, blocks-holding}
 
 abbrev pub number-word : ℕ → ℕ → ℕ
 number-word number blocks = number * 256 + blocks
 
--- The spot of a descent's parameters.
+-- The spot of a search's parameters.
 abbrev pub spot-at : (a b u v : ℕ) → Spot
 spot-at a b u v = record { a = a; b = b; u = u; v = v }
-
--- One step down from a block's number i to number j of a smaller block in it: the same square, and one block more that holds it.
-pub record Enters (k : Block) (i : ℕ) (q : Block) (j : ℕ) : Type 0 where
-  pub inside : Inside 65535 65535 q
-  pub falls : q .a * q .b < k .a * k .b
-  pub below : j < q .a * q .b
-  pub square : square-of q j ≡ square-of k i
-  pub holding : blocks-holding k (square-of k i) ≡ suc (blocks-holding q (square-of k i))
-
--- A descent into a block that `above` blocks hold, by its number i.
-pub record Descends (k : Block) (i above : ℕ) : Type 0 where
-  pub inside : Inside 65535 65535 k
-  pub below : i < k .a * k .b
-  pub count : above + blocks-holding k (square-of k i) < 256
-
-abbrev pub descent-word : Block → (i above : ℕ) → ℕ
-descent-word k i above = square-word (square-of k i) (above + blocks-holding k (square-of k i))
 
 -- The number of a spot's square in the area of its lengths, and how many blocks of that area's division hold it.
 abbrev pub spot-number : Spot → ℕ

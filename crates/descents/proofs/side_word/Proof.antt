@@ -1,9 +1,9 @@
--- `curve::side_word` meets its contract: the step is along the side's axis, which the bit names.
+-- `descents::side_word` meets its contract: the step is along the side's axis, which the bit names.
 use borrow.Author.Needs.{needs}
 use mathlib.Core.Path.{_∙_}
-use Rattle.curve.proofs.Into.{side-stepped}
-use Rattle.curve.proofs.side_word.Statement.{statement}
-use Rattle.curve.proofs.side_word.Tie as tie
+use Rattle.descents.proofs.Into.{side-stepped}
+use Rattle.descents.proofs.side_word.Statement.{statement}
+use Rattle.descents.proofs.side_word.Tie as tie
 
 stepped-requires : tie.Need-stepped-requires
 stepped-requires c κs = search needs

@@ -18,7 +18,7 @@ use Rattle.division.proofs.Cuts.{area, long-areas}
 use Rattle.division.proofs.Once.{square-held}
 use Rattle.division.proofs.Descent.{part-inside, square-in, holding-in, straight-holding, run-square, side-square}
 use Rattle.division.proofs.Walks.{a-limit, b-limit, product-limit, u-sum, Sums, sums, run-moved, side-moved}
-use Rattle.curve.specs.Descents.{square-word, Enters, Descends, descent-word}
+use Rattle.descents.specs.Descents.{square-word, Enters, Descends, descent-word}
 
 enters : (k : Block) → Inside 65535 65535 k → (before : List Block) (q : Block) (after : List Block) → parts k ≡ before ++ (q ∷ after)
     → (i j : ℕ) → total area before + j ≡ i → j < area q → Enters k i q j

@@ -1,0 +1,25 @@
+-- What a descent asks and returns, and each step of it. It returns a word: a square and a count of blocks below 256.
+use mathlib.Core.Path.{_≡_}
+use Prim.Native.Nat.{ℕ, suc, _+_, _*_, _<_}
+use Rattle.division.specs.Division.{Square, Block, square-of, blocks-holding}
+use Rattle.division.specs.Division.Inside.{Inside}
+
+abbrev pub square-word : Square → ℕ → ℕ
+square-word s blocks = (s .x * 65536 + s .y) * 256 + blocks
+
+-- One step down from a block's number i to number j of a smaller block in it: the same square, and one block more that holds it.
+pub record Enters (k : Block) (i : ℕ) (q : Block) (j : ℕ) : Type 0 where
+  pub inside : Inside 65535 65535 q
+  pub falls : q .a * q .b < k .a * k .b
+  pub below : j < q .a * q .b
+  pub square : square-of q j ≡ square-of k i
+  pub holding : blocks-holding k (square-of k i) ≡ suc (blocks-holding q (square-of k i))
+
+-- A descent into a block that `above` blocks hold, by its number i.
+pub record Descends (k : Block) (i above : ℕ) : Type 0 where
+  pub inside : Inside 65535 65535 k
+  pub below : i < k .a * k .b
+  pub count : above + blocks-holding k (square-of k i) < 256
+
+abbrev pub descent-word : Block → (i above : ℕ) → ℕ
+descent-word k i above = square-word (square-of k i) (above + blocks-holding k (square-of k i))

@@ -1,0 +1,146 @@
+// From a number of a block down to its square.
+use division::Choice;
+use division::Placed;
+ghost use mathlib.Core.Path.{_≡_};
+ghost use mathlib.Core.Bool.{cond};
+ghost use Prim.Native.Nat.{_*_, _≤_, _<_};
+ghost use Rattle.division.specs.declared.Choice.the-variants.{LongCut, UCut};
+ghost use Rattle.division.specs.Division.{square, moved, choice};
+ghost use Rattle.division.specs.Division.Inside.{Inside};
+ghost use Rattle.division.specs.Forms.{block, block-at, Steps};
+ghost use Rattle.descents.specs.Descents.{square-word, Enters, Descends, descent-word};
+
+// A square and a count in one word: a number that a descent returns costs it no copy.
+fn square_word(along: u32, across: u32, turned: bool, blocks: u32) -> u64
+    ensures { λ r. ⌜ r ≡ square-word (cond turned (square across along) (square along across)) blocks ⌝ }
+{
+    let x = division::either(turned, across, along);
+    let y = division::either(turned, along, across);
+    (x as u64 * 65536 + y as u64) * 256 + blocks as u64
+}
+
+// A part of a block, and a number in that part.
+struct Inner {
+    part: Placed,
+    i: u32,
+}
+
+// The part of a long cut that has the number i, with the rest of it.
+fn long_with(k: Placed, i: u32) -> Inner
+    requires { ⌜ Inside 65535 65535 (block k) × (i < k .a * k .b) × (choice (k .a) (k .b) ≡ LongCut) ⌝ }
+    ensures { λ r. ⌜ Enters (block k) i (block (r .part)) (r .i) ⌝ }
+{
+    let e = division::even_half(k.a);
+    let second = e * k.b <= i;
+    let part = division::long_part(k, second);
+    Inner {
+        part: part,
+        i: i - division::either(second, e, 0) * k.b,
+    }
+}
+
+// The part of a U cut that has the number i, with the rest of it.
+fn u_with(k: Placed, i: u32) -> Inner
+    requires { ⌜ Inside 65535 65535 (block k) × (i < k .a * k .b) × (choice (k .a) (k .b) ≡ UCut) ⌝ }
+    ensures { λ r. ⌜ Enters (block k) i (block (r .part)) (r .i) ⌝ }
+{
+    let e = division::even_half(k.b);
+    let to_b = e * (k.a / 2);
+    if i < to_b {
+        let part = division::part_a(k);
+        return Inner { part: part, i: i };
+    }
+    let to_c = to_b + k.a * (k.b - e);
+    if i < to_c {
+        let part = division::part_b(k);
+        return Inner {
+            part: part,
+            i: i - to_b,
+        };
+    }
+    let part = division::part_c(k);
+    Inner {
+        part: part,
+        i: i - to_c,
+    }
+}
+
+// The part of a cut block that has the number i, with the rest of it.
+fn part_with(k: Placed, case: Choice, i: u32) -> Inner
+    requires { ⌜ Inside 65535 65535 (block k) × (i < k .a * k .b) × (case ≡ choice (k .a) (k .b)) × (2 ≤ k .a) × (2 ≤ k .b) ⌝ }
+    ensures { λ r. ⌜ Enters (block k) i (block (r .part)) (r .i) ⌝ }
+{
+    match case {
+        Choice::LongCut => long_with(k, i),
+        _ => u_with(k, i),
+    }
+}
+
+// The square of a straight block's number i, along its run or along its side, and how many blocks hold it.
+fn run_word(k: Placed, i: u32, blocks: u32) -> u64
+    requires { ⌜ Steps (k .along) i (k .back) ⌝ }
+    ensures { λ r. ⌜ r ≡ square-word (moved (block k .run) i (block k .start)) blocks ⌝ }
+{
+    square_word(
+        division::stepped(k.along, i, k.back),
+        k.across,
+        k.turned,
+        blocks,
+    )
+}
+
+fn side_word(k: Placed, i: u32, blocks: u32) -> u64
+    requires { ⌜ Steps (k .across) i (k .back) ⌝ }
+    ensures { λ r. ⌜ r ≡ square-word (moved (block k .side) i (block k .start)) blocks ⌝ }
+{
+    square_word(
+        k.along,
+        division::stepped(k.across, i, k.back),
+        k.turned,
+        blocks,
+    )
+}
+
+// The square of a block's number i, and how many blocks hold it when `above` hold the block. The call on the part is the last act, so that it
+// compiles to a loop.
+pub fn descend(
+    along: u32,
+    across: u32,
+    turned: bool,
+    back: bool,
+    a: u32,
+    b: u32,
+    i: u32,
+    above: u32,
+) -> u64
+    requires { ⌜ Descends (block-at along across turned back a b) i above ⌝ }
+    ensures { λ r. ⌜ r ≡ descent-word (block-at along across turned back a b) i above ⌝ }
+{
+    let k = Placed {
+        along: along,
+        across: across,
+        turned: turned,
+        back: back,
+        a: a,
+        b: b,
+    };
+    let case = division::choose(a, b);
+    match case {
+        Choice::StraightRun => run_word(k, i, above + 1),
+        Choice::StraightSide => side_word(k, i, above + 1),
+        _ => {
+            let t = part_with(k, case, i);
+            let q = t.part;
+            descend(
+                q.along,
+                q.across,
+                q.turned,
+                q.back,
+                q.a,
+                q.b,
+                t.i,
+                above + 1,
+            )
+        }
+    }
+}
