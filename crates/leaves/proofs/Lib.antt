@@ -1,3 +1,4 @@
 pub mod Entries
 pub mod Leaves
 pub mod Checks
+pub mod Parts

@@ -9,7 +9,7 @@ ghost use Rattle.division.specs.declared.Choice.the-variants.{StraightRun};
 ghost use Rattle.division.specs.Division.{square, choice, blocks};
 ghost use Rattle.division.specs.Division.Inside.{Inside};
 ghost use Rattle.division.specs.Forms.{block};
-ghost use Rattle.leaves.specs.Walk.{place, entered, walked, near, far, Fills, least-one, checked};
+ghost use Rattle.leaves.specs.Walk.{place, entered, walked, exchanged, near, far, Fills, least-one, checked};
 
 // A square's place in a table by square.
 fn place_of(along: u32, across: u32, turned: bool, w: u32) -> u32
@@ -39,6 +39,20 @@ pub fn fill_run(table: &mut [u32], k: Placed, area: Area, at: u32, by_square: bo
         enter(table, at + i, p, by_square);
     }
     1
+}
+
+// A block with run and side exchanged.
+pub fn exchanged_block(k: Placed) -> Placed
+    ensures { λ r. ⌜ block r ≡ exchanged (block k) ⌝ }
+{
+    Placed {
+        along: k.across,
+        across: k.along,
+        turned: !k.turned,
+        back: k.back,
+        a: k.b,
+        b: k.a,
+    }
 }
 
 // Enters two squares, numbered on from n.

@@ -1,4 +1,3 @@
-pub mod Parts
 pub mod Whole
 pub mod Listed
 pub mod Judged

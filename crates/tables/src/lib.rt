@@ -9,7 +9,7 @@ ghost use Rattle.division.specs.declared.Choice.the-variants.{LongCut, UCut};
 ghost use Rattle.division.specs.Division.{choice, blocks, whole};
 ghost use Rattle.division.specs.Forms.{block, block-at};
 ghost use Rattle.tables.specs.Tables.{by-number, by-square, unless-refused, due-by, fill, fill-figures, check, check-figures};
-ghost use Rattle.leaves.specs.Walk.{walked, exchanged, Fills, checked};
+ghost use Rattle.leaves.specs.Walk.{walked, Fills, checked};
 
 // What a fill answers.
 pub enum FillAnswer {
@@ -22,20 +22,6 @@ pub enum CheckAnswer {
     Right,
     Wrong { place: u32, due: u32 },
     Refused(Refusal),
-}
-
-// A block with run and side exchanged.
-fn exchanged_block(k: Placed) -> Placed
-    ensures { λ r. ⌜ block r ≡ exchanged (block k) ⌝ }
-{
-    Placed {
-        along: k.across,
-        across: k.along,
-        turned: !k.turned,
-        back: k.back,
-        a: k.b,
-        b: k.a,
-    }
 }
 
 // A block, its fields handed on one by one: handed on whole it would be copied at each call, which nearly doubles the time.
@@ -84,7 +70,13 @@ fn fill_choice(
     let case = division::choose(a, b);
     match case {
         Choice::StraightRun => leaves::fill_run(table, k, area, at, by_square),
-        Choice::StraightSide => leaves::fill_run(table, exchanged_block(k), area, at, by_square),
+        Choice::StraightSide => leaves::fill_run(
+            table,
+            leaves::exchanged_block(k),
+            area,
+            at,
+            by_square,
+        ),
         Choice::LongCut => fill_long_cut(table, k, area, at, by_square),
         Choice::UCut => {
             if a == 2 {
@@ -225,7 +217,7 @@ fn check_choice(
         Choice::StraightRun => leaves::check_run(table, k, area, at, by_square, so_far),
         Choice::StraightSide => leaves::check_run(
             table,
-            exchanged_block(k),
+            leaves::exchanged_block(k),
             area,
             at,
             by_square,

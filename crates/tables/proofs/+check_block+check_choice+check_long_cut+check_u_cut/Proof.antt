@@ -7,7 +7,7 @@ use Rattle.division.specs.Forms.{block}
 use Rattle.division.proofs.Walks.{a-limit, b-limit}
 use Rattle.leaves.specs.Walk.{over-block, least-one}
 use Rattle.leaves.proofs.Entries.{largest}
-use Rattle.tables.proofs.Parts.{first-call, second-call, second-number, long-over, a-call, b-call, c-call, u-deep, u-numbers, u-over, side-call, side-over}
+use Rattle.leaves.proofs.Parts.{first-call, second-call, second-number, long-over, a-call, b-call, c-call, u-deep, u-numbers, u-over, side-call, side-over}
 use borrow.Fn.Kinds.{In}
 use borrow.Fn.PlainCycle.{Measures, is, falls, and}
 use Rattle.tables.proofs.check_block.Reads as check-block
@@ -30,7 +30,7 @@ use Rattle.division.proofs.part_b.Reads as part-b-reads
 use Rattle.division.proofs.part_c.Reads as part-c-reads
 use Rattle.leaves.proofs.check_leaf.Reads as check-leaf-reads
 use Rattle.leaves.proofs.check_run.Reads as check-run-reads
-use Rattle.tables.proofs.exchanged_block.Reads as exchanged-block-reads
+use Rattle.leaves.proofs.exchanged_block.Reads as exchanged-block-reads
 use Rattle.tables.proofs.+check_block+check_choice+check_long_cut+check_u_cut.{statement}
 use Rattle.tables.proofs.+check_block+check_choice+check_long_cut+check_u_cut.Tie.{close}
 

@@ -9,7 +9,7 @@ use Rattle.division.specs.Forms.{block}
 use Rattle.division.proofs.Walks.{a-limit, b-limit}
 use Rattle.leaves.specs.Walk.{entered, walked}
 use Rattle.leaves.proofs.Entries.{largest}
-use Rattle.tables.proofs.Parts.{first-call, second-call, second-number, long-over, long-count, long-fits, a-call, b-call, c-call, u-deep, u-numbers, u-over, u-count, u-fits, side-call, side-over, side-count}
+use Rattle.leaves.proofs.Parts.{first-call, second-call, second-number, long-over, long-count, long-fits, a-call, b-call, c-call, u-deep, u-numbers, u-over, u-count, u-fits, side-call, side-over, side-count}
 use borrow.Fn.Kinds.{In}
 use borrow.Fn.PlainCycle.{Measures, is, falls, and}
 use Rattle.tables.proofs.fill_block.Reads as fill-block
@@ -30,7 +30,7 @@ use Rattle.division.proofs.long_part.Reads as long-part-reads
 use Rattle.division.proofs.part_a.Reads as part-a-reads
 use Rattle.division.proofs.part_b.Reads as part-b-reads
 use Rattle.division.proofs.part_c.Reads as part-c-reads
-use Rattle.tables.proofs.exchanged_block.Reads as exchanged-block-reads
+use Rattle.leaves.proofs.exchanged_block.Reads as exchanged-block-reads
 use Rattle.leaves.proofs.fill_leaf.Reads as fill-leaf-reads
 use Rattle.leaves.proofs.fill_run.Reads as fill-run-reads
 use Rattle.tables.proofs.+fill_block+fill_choice+fill_long_cut+fill_u_cut.{statement}

@@ -1,11 +1,11 @@
--- `tables::exchanged_block` meets its contract: the bit that says which direction is along y is turned over.
+-- `leaves::exchanged_block` meets its contract: the bit that says which direction is along y is turned over.
 use mathlib.Core.Bool.{Bool, true, false, not}
 use mathlib.Core.Path.{_≡_, refl}
 use Prim.Native.Nat.{ℕ}
 use Rattle.division.specs.Forms.{block}
 use Rattle.leaves.specs.Walk.{exchanged}
-use Rattle.tables.proofs.exchanged_block.Statement.{statement}
-use Rattle.tables.proofs.exchanged_block.Tie as tie
+use Rattle.leaves.proofs.exchanged_block.Statement.{statement}
+use Rattle.leaves.proofs.exchanged_block.Tie as tie
 
 exchanged-by : (along across a b : ℕ) (turned back : Bool)
     → block (record { along = across; across = along; turned = not turned; back = back; a = b; b = a })
