@@ -1,13 +1,13 @@
--- A walk over a block part by part: each part has its room, its area is less, the parts' squares in order are the block's, and so are their counts.
+-- A walk over a block part by part: each part has its room, its area is less, and the parts' squares in order are the block's.
 use mathlib.Core.List.{List, [], _∷_, _++_, map, map-append}
 use mathlib.Core.Path.{_≡_, refl, sym, ap, subst, subst⁻¹, _∙_}
-use Prim.Native.Nat.{ℕ, suc, _+_, _-_, _*_, _/_, _≤_, _<_}
+use Prim.Native.Nat.{ℕ, _+_, _-_, _*_, _/_, _≤_, _<_}
 use native.Mathlib.Nat.{mul-comm, mul-le-mul, mul-le-mul-right}
 use native.Mathlib.Omega.{arith}
-use lib.ListN.{length, length-append, length-map}
+use lib.ListN.{length, length-map}
 use Rattle.division.specs.declared.Choice.the-variants.{StraightRun, StraightSide, LongCut, UCut}
 use Rattle.division.specs.declared.Placed.{Placed}
-use Rattle.division.specs.Division.{Square, Block, choice, even-half, First, Second, A, B, C, part, parts, parts-of, curve, blocks}
+use Rattle.division.specs.Division.{Square, Block, choice, even-half, First, Second, A, B, C, part, parts, parts-of, curve}
 use Rattle.division.specs.Division.Inside.{Sized}
 use Rattle.division.specs.Division.Rules.{All, Smaller, smaller, parts-are, rule, halves, long-lengths, u-lengths, side-length}
 use Rattle.division.specs.Forms.{block}
@@ -15,7 +15,6 @@ use Rattle.division.proofs.Plane.{turned}
 use Rattle.division.proofs.Sums.{total, all-right}
 use Rattle.division.proofs.Cuts.{area}
 use Rattle.division.proofs.Once.{length-curve}
-use Rattle.division.proofs.Blocks.{few-blocks}
 use Rattle.division.proofs.Descent.{part-inside, skip-fits}
 use Rattle.division.proofs.Walks.{Sums, sums}
 use Rattle.leaves.specs.Walk.{place, over, over-block, exchanged, Fills}
@@ -46,14 +45,6 @@ first-over step state w k q zs at s e =
     ∙ ap (over step state at) (map-append (place w) (curve q) zs)
     ∙ over-append step state at (map (place w) (curve q)) (map (place w) zs)
     ∙ ap (λ n. over step (over-block step state w q at) (at + n) (map (place w) zs)) (length-map (curve q) (place w) ∙ length-curve q s)
-
--- a count of blocks is a 64-bit number
-few : {w h : ℕ} {t : List ℕ} {k : Block} {at : ℕ} → Fills w h t k at → length (blocks k) < 8589934592
-few {k = k} f =
-    let most = few-blocks k (f .inside .sized) in
-    let room = f .room in
-    let all = mul-le-mul (f .w-limit) (f .h-limit) in
-    omega arith
 
 -- the long cut
 module _ {w h : ℕ} {t : List ℕ} {k : Block} {at : ℕ} (f : Fills w h t k at) (c : choice (k .a) (k .b) ≡ LongCut) {e : ℕ} (half : e ≡ even-half (k .a)) where
@@ -87,14 +78,6 @@ module _ {w h : ℕ} {t : List ℕ} {k : Block} {at : ℕ} (f : Fills w h t k at
   long-over step state =
       ap (λ a. over-block step (over-block step state w (part First k) at) w (part Second k) (at + a * k .b)) half
       ∙ sym (first-over step state w k (part First k) (curve (part Second k)) at sized-first (rule k LongCut (f .inside .sized) c .0))
-
-  pub long-count : {n m : ℕ} → n ≡ length (blocks (part First k)) → m ≡ length (blocks (part Second k)) → n + m + 1 ≡ length (blocks k)
-  long-count {n} {m} p q =
-      let sum = ap length (rule k LongCut (f .inside .sized) c .1) ∙ ap suc (length-append (blocks (part First k)) (blocks (part Second k))) in
-      omega arith
-
-  pub long-fits : {n m : ℕ} → n ≡ length (blocks (part First k)) → m ≡ length (blocks (part Second k)) → n + m + 1 < 8589934592
-  long-fits {n} {m} p q = let all = long-count p q in let most = few f in omega arith
 
 -- the U cut
 pub u-deep : {w h : ℕ} {t : List ℕ} {k : Block} {at : ℕ} → Fills w h t k at → choice (k .a) (k .b) ≡ UCut → 2 ≤ k .b
@@ -153,18 +136,6 @@ module _ {w h : ℕ} {t : List ℕ} {k : Block} {at : ℕ} (f : Fills w h t k at
       ∙ ap (λ x. over step (over-block step first w (part B k) (at + area (part A k))) (at + area (part A k) + x) (map (place w) (curve (part C k))))
       (length-map (curve (part B k)) (place w) ∙ length-curve (part B k) sized-b))
 
-  pub u-count : {l m n : ℕ} → l ≡ length (blocks (part A k)) → m ≡ length (blocks (part B k)) → n ≡ length (blocks (part C k))
-      → l + m + n + 1 ≡ length (blocks k)
-  u-count {l} {m} {n} p q r =
-      let sum =
-      ap length (rule k UCut (f .inside .sized) c .1)
-      ∙ ap suc (length-append (blocks (part A k)) (blocks (part B k) ++ blocks (part C k))
-      ∙ ap (λ x. length (blocks (part A k)) + x) (length-append (blocks (part B k)) (blocks (part C k)))) in
-      omega arith
-
-  pub u-fits : {l m n : ℕ} → l ≡ length (blocks (part A k)) → m ≡ length (blocks (part B k)) → n ≡ length (blocks (part C k)) → l + m + n + 1 < 8589934592
-  u-fits {l} {m} {n} p q r = let all = u-count p q r in let most = few f in omega arith
-
 -- a straight block with run and side exchanged: the same squares in the same order
 module _ {w h : ℕ} {t : List ℕ} {k : Block} {at : ℕ} (f : Fills w h t k at) (c : choice (k .a) (k .b) ≡ StraightSide) where
   exchanged-fills : Fills w h t (exchanged k) at
@@ -199,10 +170,3 @@ module _ {w h : ℕ} {t : List ℕ} {k : Block} {at : ℕ} (f : Fills w h t k at
       (ap curve there
       ∙ rule (exchanged k) StraightRun (exchanged-fills .inside .sized) exchanged-case .0
       ∙ sym (rule k StraightSide (f .inside .sized) c .0))
-
-  pub side-count : (r : Placed) → block r ≡ exchanged k → length (blocks (block r)) ≡ length (blocks k)
-  unfolding exchanged
-  side-count r there =
-      ap (λ j. length (blocks j)) there
-      ∙ ap length (rule (exchanged k) StraightRun (exchanged-fills .inside .sized) exchanged-case .1)
-      ∙ sym (ap length (rule k StraightSide (f .inside .sized) c .1))

@@ -1,4 +1,4 @@
--- `tables::check_block`, `check_choice`, `check_long_cut` and `check_u_cut` meet their contracts, by the laws of `Parts`: the parts' looks in order are the block's.
+-- `checks::check_block`, `check_choice`, `check_long_cut` and `check_u_cut` meet their contracts, by the laws of `Parts`: the parts' looks in order are the block's.
 -- The measure is three times the block's area, one more for `check_choice` and two for `check_block`, which hand the block itself on.
 use mathlib.Core.Path.{refl, sym, ap, ap₂, subst, _∙_}
 use Prim.Native.Nat.{ℕ, _+_, _-_, _*_, _/_, _<_}
@@ -10,18 +10,18 @@ use Rattle.leaves.proofs.Entries.{largest}
 use Rattle.leaves.proofs.Parts.{first-call, second-call, second-number, long-over, a-call, b-call, c-call, u-deep, u-numbers, u-over, side-call, side-over}
 use borrow.Fn.Kinds.{In}
 use borrow.Fn.PlainCycle.{Measures, is, falls, and}
-use Rattle.tables.proofs.check_block.Reads as check-block
-use Rattle.tables.proofs.check_block.Kinds as check-block-kinds
-use Rattle.tables.proofs.+check_block+check_choice+check_long_cut+check_u_cut.Lts-check_block as check-block-lts
-use Rattle.tables.proofs.check_choice.Reads as check-choice
-use Rattle.tables.proofs.check_choice.Kinds as check-choice-kinds
-use Rattle.tables.proofs.+check_block+check_choice+check_long_cut+check_u_cut.Lts-check_choice as check-choice-lts
-use Rattle.tables.proofs.check_long_cut.Reads as check-long-cut
-use Rattle.tables.proofs.check_long_cut.Kinds as check-long-cut-kinds
-use Rattle.tables.proofs.+check_block+check_choice+check_long_cut+check_u_cut.Lts-check_long_cut as check-long-cut-lts
-use Rattle.tables.proofs.check_u_cut.Reads as check-u-cut
-use Rattle.tables.proofs.check_u_cut.Kinds as check-u-cut-kinds
-use Rattle.tables.proofs.+check_block+check_choice+check_long_cut+check_u_cut.Lts-check_u_cut as check-u-cut-lts
+use Rattle.checks.proofs.check_block.Reads as check-block
+use Rattle.checks.proofs.check_block.Kinds as check-block-kinds
+use Rattle.checks.proofs.+check_block+check_choice+check_long_cut+check_u_cut.Lts-check_block as check-block-lts
+use Rattle.checks.proofs.check_choice.Reads as check-choice
+use Rattle.checks.proofs.check_choice.Kinds as check-choice-kinds
+use Rattle.checks.proofs.+check_block+check_choice+check_long_cut+check_u_cut.Lts-check_choice as check-choice-lts
+use Rattle.checks.proofs.check_long_cut.Reads as check-long-cut
+use Rattle.checks.proofs.check_long_cut.Kinds as check-long-cut-kinds
+use Rattle.checks.proofs.+check_block+check_choice+check_long_cut+check_u_cut.Lts-check_long_cut as check-long-cut-lts
+use Rattle.checks.proofs.check_u_cut.Reads as check-u-cut
+use Rattle.checks.proofs.check_u_cut.Kinds as check-u-cut-kinds
+use Rattle.checks.proofs.+check_block+check_choice+check_long_cut+check_u_cut.Lts-check_u_cut as check-u-cut-lts
 use Rattle.division.proofs.choose.Reads as choose-reads
 use Rattle.division.proofs.even_half.Reads as even-half-reads
 use Rattle.division.proofs.long_part.Reads as long-part-reads
@@ -31,8 +31,8 @@ use Rattle.division.proofs.part_c.Reads as part-c-reads
 use Rattle.leaves.proofs.check_leaf.Reads as check-leaf-reads
 use Rattle.leaves.proofs.check_run.Reads as check-run-reads
 use Rattle.leaves.proofs.exchanged_block.Reads as exchanged-block-reads
-use Rattle.tables.proofs.+check_block+check_choice+check_long_cut+check_u_cut.{statement}
-use Rattle.tables.proofs.+check_block+check_choice+check_long_cut+check_u_cut.Tie.{close}
+use Rattle.checks.proofs.+check_block+check_choice+check_long_cut+check_u_cut.{statement}
+use Rattle.checks.proofs.+check_block+check_choice+check_long_cut+check_u_cut.Tie.{close}
 
 abbrev μ-check-block : Measures 1 check-block-kinds.ps ℕ
 μ-check-block κs a = 3 * (a .1 .0 .a * a .1 .0 .b) + 2

@@ -1,4 +1,4 @@
--- `tables::fill_block`, `fill_choice`, `fill_long_cut` and `fill_u_cut` meet their contracts, by the laws of `Parts`: the parts' entries in order are the block's.
+-- `fills::fill_block`, `fill_choice`, `fill_long_cut` and `fill_u_cut` meet their contracts, by the laws of `Parts` and `Counts`: the parts' entries in order are the block's.
 -- The measure is three times the block's area, one more for `fill_choice` and two for `fill_block`, which hand the block itself on.
 use mathlib.Core.Path.{sym, ap, ap₂, subst, _∙_}
 use Prim.Native.Nat.{ℕ, _+_, _-_, _*_, _/_, _<_}
@@ -9,21 +9,22 @@ use Rattle.division.specs.Forms.{block}
 use Rattle.division.proofs.Walks.{a-limit, b-limit}
 use Rattle.leaves.specs.Walk.{entered, walked}
 use Rattle.leaves.proofs.Entries.{largest}
-use Rattle.leaves.proofs.Parts.{first-call, second-call, second-number, long-over, long-count, long-fits, a-call, b-call, c-call, u-deep, u-numbers, u-over, u-count, u-fits, side-call, side-over, side-count}
+use Rattle.leaves.proofs.Parts.{first-call, second-call, second-number, long-over, a-call, b-call, c-call, u-deep, u-numbers, u-over, side-call, side-over}
+use Rattle.fills.proofs.Counts.{long-count, long-fits, u-count, u-fits, side-count}
 use borrow.Fn.Kinds.{In}
 use borrow.Fn.PlainCycle.{Measures, is, falls, and}
-use Rattle.tables.proofs.fill_block.Reads as fill-block
-use Rattle.tables.proofs.fill_block.Kinds as fill-block-kinds
-use Rattle.tables.proofs.+fill_block+fill_choice+fill_long_cut+fill_u_cut.Lts-fill_block as fill-block-lts
-use Rattle.tables.proofs.fill_choice.Reads as fill-choice
-use Rattle.tables.proofs.fill_choice.Kinds as fill-choice-kinds
-use Rattle.tables.proofs.+fill_block+fill_choice+fill_long_cut+fill_u_cut.Lts-fill_choice as fill-choice-lts
-use Rattle.tables.proofs.fill_long_cut.Reads as fill-long-cut
-use Rattle.tables.proofs.fill_long_cut.Kinds as fill-long-cut-kinds
-use Rattle.tables.proofs.+fill_block+fill_choice+fill_long_cut+fill_u_cut.Lts-fill_long_cut as fill-long-cut-lts
-use Rattle.tables.proofs.fill_u_cut.Reads as fill-u-cut
-use Rattle.tables.proofs.fill_u_cut.Kinds as fill-u-cut-kinds
-use Rattle.tables.proofs.+fill_block+fill_choice+fill_long_cut+fill_u_cut.Lts-fill_u_cut as fill-u-cut-lts
+use Rattle.fills.proofs.fill_block.Reads as fill-block
+use Rattle.fills.proofs.fill_block.Kinds as fill-block-kinds
+use Rattle.fills.proofs.+fill_block+fill_choice+fill_long_cut+fill_u_cut.Lts-fill_block as fill-block-lts
+use Rattle.fills.proofs.fill_choice.Reads as fill-choice
+use Rattle.fills.proofs.fill_choice.Kinds as fill-choice-kinds
+use Rattle.fills.proofs.+fill_block+fill_choice+fill_long_cut+fill_u_cut.Lts-fill_choice as fill-choice-lts
+use Rattle.fills.proofs.fill_long_cut.Reads as fill-long-cut
+use Rattle.fills.proofs.fill_long_cut.Kinds as fill-long-cut-kinds
+use Rattle.fills.proofs.+fill_block+fill_choice+fill_long_cut+fill_u_cut.Lts-fill_long_cut as fill-long-cut-lts
+use Rattle.fills.proofs.fill_u_cut.Reads as fill-u-cut
+use Rattle.fills.proofs.fill_u_cut.Kinds as fill-u-cut-kinds
+use Rattle.fills.proofs.+fill_block+fill_choice+fill_long_cut+fill_u_cut.Lts-fill_u_cut as fill-u-cut-lts
 use Rattle.division.proofs.choose.Reads as choose-reads
 use Rattle.division.proofs.even_half.Reads as even-half-reads
 use Rattle.division.proofs.long_part.Reads as long-part-reads
@@ -33,8 +34,8 @@ use Rattle.division.proofs.part_c.Reads as part-c-reads
 use Rattle.leaves.proofs.exchanged_block.Reads as exchanged-block-reads
 use Rattle.leaves.proofs.fill_leaf.Reads as fill-leaf-reads
 use Rattle.leaves.proofs.fill_run.Reads as fill-run-reads
-use Rattle.tables.proofs.+fill_block+fill_choice+fill_long_cut+fill_u_cut.{statement}
-use Rattle.tables.proofs.+fill_block+fill_choice+fill_long_cut+fill_u_cut.Tie.{close}
+use Rattle.fills.proofs.+fill_block+fill_choice+fill_long_cut+fill_u_cut.{statement}
+use Rattle.fills.proofs.+fill_block+fill_choice+fill_long_cut+fill_u_cut.Tie.{close}
 
 abbrev μ-fill-block : Measures 1 fill-block-kinds.ps ℕ
 μ-fill-block κs a = 3 * (a .1 .0 .a * a .1 .0 .b) + 2
@@ -209,7 +210,7 @@ fill-long-cut-fill-block-requires-2 t c κs = let next = second-call (c .before 
 fill-long-cut-add-result-2 : (t : ℕ) → fill-long-cut-lts.Need-add-result-2 (fill-long-cut-calls t) (fill-long-cut-at t) fill-long-cut.Post
 fill-long-cut-add-result-2 t c =
     let all =
-    long-fits (c .before .before .before .before .before .before .before .before .before .before .before .before .before .pre .1 .0) (c .before .before .before .before .before .before .before .before .before .before .before .before .before .pre .1 .1) (c .before .before .before .before .before .before .before .before .before .before .before .even-half .ensures)
+    long-fits (c .before .before .before .before .before .before .before .before .before .before .before .before .before .pre .1 .0) (c .before .before .before .before .before .before .before .before .before .before .before .before .before .pre .1 .1)
     (c .before .before .before .before .before .before .before .fill-block .ensures .1 ∙ ap (λ j. length (blocks j)) (c .before .before .before .before .before .before .before .before .long-part .ensures))
     (c .before .before .fill-block2 .ensures .1 ∙ ap (λ j. length (blocks j)) (c .before .before .before .long-part2 .ensures)) in
     record { fits = omega arith }
@@ -229,7 +230,7 @@ fill-long-cut-returns t c = let by-square = c .before .before .before .before .b
           ∙ ap₂ (λ t j. walked by-square w t j (c .before .before .before .before .before .before .before .before .before .before .before .before .before .args .at + c .before .before .before .before .before .before .before .before .before .before .before .even-half .result * c .before .before .before .before .before .before .before .before .before .before .before .before .before .args .k .b))
           (c .before .before .before .before .before .before .before .fill-block .ensures .0 ∙ ap (λ j. walked by-square w (c .before .before .before .before .before .before .before .before .before .before .before .before .before .args .table .now) j (c .before .before .before .before .before .before .before .before .before .before .before .before .before .args .at)) first) second
           ∙ long-over (c .before .before .before .before .before .before .before .before .before .before .before .before .before .pre .1 .0) (c .before .before .before .before .before .before .before .before .before .before .before .before .before .pre .1 .1) (c .before .before .before .before .before .before .before .before .before .before .before .even-half .ensures) (entered by-square) (c .before .before .before .before .before .before .before .before .before .before .before .before .before .args .table .now),
-      long-count (c .before .before .before .before .before .before .before .before .before .before .before .before .before .pre .1 .0) (c .before .before .before .before .before .before .before .before .before .before .before .before .before .pre .1 .1) (c .before .before .before .before .before .before .before .before .before .before .before .even-half .ensures)
+      long-count (c .before .before .before .before .before .before .before .before .before .before .before .before .before .pre .1 .0) (c .before .before .before .before .before .before .before .before .before .before .before .before .before .pre .1 .1)
           (c .before .before .before .before .before .before .before .fill-block .ensures .1 ∙ ap (λ j. length (blocks j)) first) (c .before .before .fill-block2 .ensures .1 ∙ ap (λ j. length (blocks j)) second),
     )
 
@@ -275,7 +276,7 @@ fill-u-cut-fill-block-requires-3 t c κs = let next = c-call (c .before .before 
 fill-u-cut-add-result-3 : (t : ℕ) → fill-u-cut-lts.Need-add-result-3 (fill-u-cut-calls t) (fill-u-cut-at t) fill-u-cut.Post
 fill-u-cut-add-result-3 t c =
     let all =
-    u-fits (c .before .before .before .before .before .before .before .before .before .before .before .before .before .before .before .before .before .before .before .before .pre .1 .0) (c .before .before .before .before .before .before .before .before .before .before .before .before .before .before .before .before .before .before .before .before .pre .1 .1) (c .before .before .before .before .before .before .before .before .before .before .before .before .before .before .before .before .before .before .even-half .ensures)
+    u-fits (c .before .before .before .before .before .before .before .before .before .before .before .before .before .before .before .before .before .before .before .before .pre .1 .0) (c .before .before .before .before .before .before .before .before .before .before .before .before .before .before .before .before .before .before .before .before .pre .1 .1)
     (c .before .before .before .before .before .before .before .before .before .before .before .before .fill-block .ensures .1 ∙ ap (λ j. length (blocks j)) (c .before .before .before .before .before .before .before .before .before .before .before .before .before .part-a .ensures))
     (c .before .before .before .before .before .before .before .fill-block2 .ensures .1 ∙ ap (λ j. length (blocks j)) (c .before .before .before .before .before .before .before .before .part-b .ensures))
     (c .before .before .fill-block3 .ensures .1 ∙ ap (λ j. length (blocks j)) (c .before .before .before .part-c .ensures)) in
@@ -304,7 +305,7 @@ fill-u-cut-returns t c = let by-square = c .before .before .before .before .befo
           (c .before .before .before .before .before .before .before .fill-block2 .ensures .0
           ∙ ap₂ (λ t j. walked by-square w t j (at + e * (k .a / 2))) (c .before .before .before .before .before .before .before .before .before .before .before .before .fill-block .ensures .0 ∙ ap (λ j. walked by-square w (c .before .before .before .before .before .before .before .before .before .before .before .before .before .before .before .before .before .before .before .before .args .table .now) j at) a) b) d
           ∙ u-over (c .before .before .before .before .before .before .before .before .before .before .before .before .before .before .before .before .before .before .before .before .pre .1 .0) (c .before .before .before .before .before .before .before .before .before .before .before .before .before .before .before .before .before .before .before .before .pre .1 .1) (c .before .before .before .before .before .before .before .before .before .before .before .before .before .before .before .before .before .before .even-half .ensures) (entered by-square) (c .before .before .before .before .before .before .before .before .before .before .before .before .before .before .before .before .before .before .before .before .args .table .now),
-      u-count (c .before .before .before .before .before .before .before .before .before .before .before .before .before .before .before .before .before .before .before .before .pre .1 .0) (c .before .before .before .before .before .before .before .before .before .before .before .before .before .before .before .before .before .before .before .before .pre .1 .1) (c .before .before .before .before .before .before .before .before .before .before .before .before .before .before .before .before .before .before .even-half .ensures)
+      u-count (c .before .before .before .before .before .before .before .before .before .before .before .before .before .before .before .before .before .before .before .before .pre .1 .0) (c .before .before .before .before .before .before .before .before .before .before .before .before .before .before .before .before .before .before .before .before .pre .1 .1)
           (c .before .before .before .before .before .before .before .before .before .before .before .before .fill-block .ensures .1 ∙ ap (λ j. length (blocks j)) a) (c .before .before .before .before .before .before .before .fill-block2 .ensures .1 ∙ ap (λ j. length (blocks j)) b) (c .before .before .fill-block3 .ensures .1 ∙ ap (λ j. length (blocks j)) d),
     )
 

@@ -1,0 +1,106 @@
+// Fills a block of the division into a table: the cuts hand their parts to each other, the leaves are below.
+use division::Choice;
+use division::Placed;
+use terms::Area;
+ghost use mathlib.Core.Path.{_≡_};
+ghost use lib.ListN.{length};
+ghost use Rattle.division.specs.declared.Choice.the-variants.{LongCut, UCut};
+ghost use Rattle.division.specs.Division.{choice, blocks};
+ghost use Rattle.division.specs.Forms.{block, block-at};
+ghost use Rattle.leaves.specs.Walk.{walked, Fills};
+
+// A block, its fields handed on one by one: handed on whole it would be copied at each call, which nearly doubles the time.
+pub fn fill_block(table: &mut [u32], k: Placed, area: Area, at: u32, by_square: bool) -> u64
+    requires { ⌜ Fills (area .w) (area .h) (now table) (block k) at ⌝ }
+    ensures { λ r. ⌜ (now (table .exit) ≡ walked «by_square» (area .w) (now (table .entry)) (block k) at) × (r ≡ length (blocks (block k))) ⌝ }
+{
+    fill_choice(
+        table,
+        k.along,
+        k.across,
+        k.turned,
+        k.back,
+        k.a,
+        k.b,
+        area,
+        at,
+        by_square,
+    )
+}
+
+// A block by its case. It and the two cuts call each other; the block's area falls.
+fn fill_choice(
+    table: &mut [u32],
+    along: u32,
+    across: u32,
+    turned: bool,
+    back: bool,
+    a: u32,
+    b: u32,
+    area: Area,
+    at: u32,
+    by_square: bool,
+) -> u64
+    requires { ⌜ Fills (area .w) (area .h) (now table) (block-at along across turned back a b) at ⌝ }
+    ensures { λ r. ⌜ (now (table .exit) ≡ walked «by_square» (area .w) (now (table .entry)) (block-at along across turned back a b) at) × (r ≡ length (blocks (block-at along across turned back a b))) ⌝ }
+{
+    let k = Placed {
+        along: along,
+        across: across,
+        turned: turned,
+        back: back,
+        a: a,
+        b: b,
+    };
+    let case = division::choose(a, b);
+    match case {
+        Choice::StraightRun => leaves::fill_run(table, k, area, at, by_square),
+        Choice::StraightSide => leaves::fill_run(
+            table,
+            leaves::exchanged_block(k),
+            area,
+            at,
+            by_square,
+        ),
+        Choice::LongCut => fill_long_cut(table, k, area, at, by_square),
+        Choice::UCut => {
+            if a == 2 {
+                if b <= 3 {
+                    return leaves::fill_leaf(table, k, area, at, by_square);
+                }
+            }
+            fill_u_cut(table, k, area, at, by_square)
+        }
+    }
+}
+
+// The two parts of a long cut.
+fn fill_long_cut(table: &mut [u32], k: Placed, area: Area, at: u32, by_square: bool) -> u64
+    requires { ⌜ Fills (area .w) (area .h) (now table) (block k) at × (choice (k .a) (k .b) ≡ LongCut) ⌝ }
+    ensures { λ r. ⌜ (now (table .exit) ≡ walked «by_square» (area .w) (now (table .entry)) (block k) at) × (r ≡ length (blocks (block k))) ⌝ }
+{
+    let to_second = at + division::even_half(k.a) * k.b;
+    let first = fill_block(table, division::long_part(k, false), area, at, by_square);
+    let second = fill_block(
+        table,
+        division::long_part(k, true),
+        area,
+        to_second,
+        by_square,
+    );
+    first + second + 1
+}
+
+// The three parts of a U cut.
+fn fill_u_cut(table: &mut [u32], k: Placed, area: Area, at: u32, by_square: bool) -> u64
+    requires { ⌜ Fills (area .w) (area .h) (now table) (block k) at × (choice (k .a) (k .b) ≡ UCut) ⌝ }
+    ensures { λ r. ⌜ (now (table .exit) ≡ walked «by_square» (area .w) (now (table .entry)) (block k) at) × (r ≡ length (blocks (block k))) ⌝ }
+{
+    let e = division::even_half(k.b);
+    let to_b = at + e * (k.a / 2);
+    let to_c = to_b + k.a * (k.b - e);
+    let a = fill_block(table, division::part_a(k), area, at, by_square);
+    let b = fill_block(table, division::part_b(k), area, to_b, by_square);
+    let c = fill_block(table, division::part_c(k), area, to_c, by_square);
+    a + b + c + 1
+}
