@@ -88,8 +88,8 @@ fn main() {
     std::io::stdin().read_to_string(&mut code).unwrap();
     let functions = read(&code);
     let depth = nested(65535, 65535, &mut HashMap::new());
-    println!("| call | stack, bytes |");
-    println!("|---|---|");
+    println!("### Stack\n\nFrom the compiled code, with the return addresses, at 65,535 by 65,535.\n");
+    println!("| call | bytes |\n|---|---|");
     for name in functions.keys().filter(|name| name.starts_with("uvalinda_")) {
         println!("| {name} | {} |", takes(name, &functions, depth));
     }

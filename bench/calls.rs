@@ -1,0 +1,172 @@
+// Every call of the library and a version of it in plain Rust, side by side in one process on the same inputs: first that they answer alike, then the
+// least time of several rounds.
+#[path = "../tests/random.rs"]
+mod random;
+#[path = "../bindings/rust/src/raw.rs"]
+mod raw;
+mod versions;
+
+use random::Random;
+use std::fmt::Debug;
+use std::hint::black_box;
+use std::time::Instant;
+
+// SAFETY, here and below: each slice is passed with its own length, and no two of them overlap.
+fn number_to_square(w: u32, h: u32, number: u32) -> Result<(u32, u32, u32), u32> {
+    let mut result = [0; 3];
+    match unsafe { raw::uvalinda_number_to_square(w, h, number, result.as_mut_ptr(), result.len()) } {
+        0 => Ok((result[0], result[1], result[2])),
+        refusal => Err(refusal),
+    }
+}
+
+fn square_to_number(w: u32, h: u32, x: u32, y: u32) -> Result<(u32, u32), u32> {
+    let mut result = [0; 2];
+    match unsafe { raw::uvalinda_square_to_number(w, h, x, y, result.as_mut_ptr(), result.len()) } {
+        0 => Ok((result[0], result[1])),
+        refusal => Err(refusal),
+    }
+}
+
+fn finish_square(w: u32, h: u32) -> Result<(u32, u32), u32> {
+    let mut result = [0; 2];
+    match unsafe { raw::uvalinda_finish_square(w, h, result.as_mut_ptr(), result.len()) } {
+        0 => Ok((result[0], result[1])),
+        refusal => Err(refusal),
+    }
+}
+
+fn fill(w: u32, h: u32, table: &mut [u32], by_square: bool) -> Result<u64, u32> {
+    let call = if by_square { raw::uvalinda_fill_by_square } else { raw::uvalinda_fill_by_number };
+    let mut blocks = [0];
+    match unsafe { call(w, h, table.as_mut_ptr(), table.len(), blocks.as_mut_ptr(), blocks.len()) } {
+        0 => Ok(blocks[0]),
+        refusal => Err(refusal),
+    }
+}
+
+fn check(w: u32, h: u32, table: &[u32], by_square: bool) -> Result<Option<(u32, u32)>, u32> {
+    let call = if by_square { raw::uvalinda_check_by_square } else { raw::uvalinda_check_by_number };
+    let mut result = [0; 3];
+    match unsafe { call(w, h, table.as_ptr(), table.len(), result.as_mut_ptr(), result.len()) } {
+        0 => Ok((result[0] == 1).then_some((result[1], result[2]))),
+        refusal => Err(refusal),
+    }
+}
+
+fn handle_line(area: &mut Option<(u32, u32)>, line: &[u8]) -> Result<[u32; 4], u32> {
+    let (w, h) = area.unwrap_or((0, 0));
+    let mut now = [0; 6];
+    let refusal = unsafe { raw::uvalinda_handle_line(w, h, line.as_ptr(), line.len(), now.as_mut_ptr(), now.len()) };
+    *area = (now[0] != 0).then_some((now[0], now[1]));
+    match refusal {
+        0 => Ok([now[2], now[3], now[4], now[5]]),
+        refusal => Err(refusal),
+    }
+}
+
+// Nanoseconds for each of n things.
+fn time(n: usize, f: impl FnOnce()) -> f64 {
+    let start = Instant::now();
+    f();
+    start.elapsed().as_nanos() as f64 / n as f64
+}
+
+// Two functions over the same inputs: the least time a call of each.
+fn least<I: Copy, A: PartialEq + Debug>(inputs: &[I], mut one: impl FnMut(I) -> A, mut other: impl FnMut(I) -> A) -> (f64, f64) {
+    for &i in inputs {
+        assert_eq!(one(i), other(i));
+    }
+    let mut best = (f64::MAX, f64::MAX);
+    for _ in 0..9 {
+        best.0 = best.0.min(time(inputs.len(), || inputs.iter().for_each(|&i| _ = black_box(one(black_box(i))))));
+        best.1 = best.1.min(time(inputs.len(), || inputs.iter().for_each(|&i| _ = black_box(other(black_box(i))))));
+    }
+    best
+}
+
+fn row(area: &str, call: &str, (library, rust): (f64, f64)) {
+    println!("| {area} | {call} | {library:.2} | {rust:.2} | {:.2} |", library / rust);
+}
+
+fn lookups(random: &mut Random) {
+    println!("### Lookups and lines\n\nNanoseconds a call, the least of nine rounds over a million random inputs.\n");
+    println!("| area | call | library | Rust | ratio |\n|---|---|---|---|---|");
+    for (w, h) in [(64, 64), (256, 256), (1024, 1024), (4096, 4096), (16384, 16384), (65535, 65535), (3000, 5000)] {
+        let area = format!("{w} by {h}");
+        let numbers: Vec<u32> = (0..1_000_000).map(|_| random.below(w as u64 * h as u64) as u32).collect();
+        row(&area, "number to square", least(&numbers, |n| number_to_square(w, h, n), |n| versions::number_to_square(w, h, n)));
+        let squares: Vec<(u32, u32)> = (0..1_000_000).map(|_| (random.below(w as u64) as u32, random.below(h as u64) as u32)).collect();
+        row(&area, "square to number", least(&squares, |(x, y)| square_to_number(w, h, x, y), |(x, y)| versions::square_to_number(w, h, x, y)));
+    }
+    let areas: Vec<(u32, u32)> = (0..1_000_000).map(|_| (random.below(70000) as u32, random.below(70000) as u32)).collect();
+    row("random", "finish square", least(&areas, |(w, h)| finish_square(w, h), |(w, h)| versions::finish_square(w, h)));
+}
+
+// Lines of a form, and random lines of which many are refused, each under the area that the line before it left.
+fn lines(random: &mut Random) {
+    let form: Vec<Vec<u8>> = (0..200_000)
+        .map(|i| match (i % 100, i % 2) {
+            (0, _) => b"AREA 4096 4096".to_vec(),
+            (_, 0) => format!("N {}", random.below(4096 * 4096)).into_bytes(),
+            _ => format!("S {} {}", random.below(4096), random.below(4096)).into_bytes(),
+        })
+        .collect();
+    let hostile: Vec<Vec<u8>> = (0..200_000).map(|_| random::line(random)).collect();
+    for (area, call, lines) in [("4096 by 4096", "lines of a form", form), ("random", "random lines", hostile)] {
+        let lines: Vec<&[u8]> = lines.iter().map(|line| &line[..]).collect();
+        let (mut ours, mut theirs) = (None, None);
+        row(area, call, least(&lines, |line| handle_line(&mut ours, line), |line| versions::handle_line(&mut theirs, line)));
+    }
+}
+
+#[inline(never)]
+fn index_fill(table: &mut [u32]) {
+    for (i, place) in table.iter_mut().enumerate() {
+        *place = i as u32;
+    }
+}
+
+// The least time a square of fill and check, in the library and in Rust, and of writing the index.
+fn least_of_tables(w: u32, h: u32, by_square: bool) -> [f64; 5] {
+    let n = w as usize * h as usize;
+    let (mut ours, mut theirs, mut index) = (vec![0; n], vec![0; n], vec![0; n]);
+    assert_eq!(fill(w, h, &mut ours, by_square), versions::fill(w, h, &mut theirs, by_square));
+    assert_eq!(ours, theirs);
+    ours[n / 2] += 1;
+    assert_eq!(check(w, h, &ours, by_square), Ok(Some((n as u32 / 2, theirs[n / 2]))));
+    assert_eq!(check(w, h, &ours, by_square), versions::check(w, h, &ours, by_square));
+    let mut best = [f64::MAX; 5];
+    for _ in 0..if n < 1_000_000 { 50 } else { 7 } {
+        let round = [
+            time(n, || _ = black_box(fill(w, h, black_box(&mut ours), by_square))),
+            time(n, || _ = black_box(versions::fill(w, h, black_box(&mut theirs), by_square))),
+            time(n, || assert_eq!(check(w, h, black_box(&ours), by_square), Ok(None))),
+            time(n, || assert_eq!(versions::check(w, h, black_box(&theirs), by_square), Ok(None))),
+            time(n, || index_fill(black_box(&mut index))),
+        ];
+        for (b, r) in best.iter_mut().zip(round) {
+            *b = b.min(r);
+        }
+    }
+    best
+}
+
+fn tables() {
+    println!("\n### Tables\n\nNanoseconds a square, the least of seven rounds or more over the whole area.\n");
+    println!("| area | kind | fill | Rust fill | ratio | to writing the index | check | Rust check | ratio |\n|---|---|---|---|---|---|---|---|---|");
+    for (w, h) in [(64, 64), (256, 256), (1024, 1024), (4096, 4096), (8192, 8192), (4095, 4097), (3000, 5000)] {
+        for (by_square, kind) in [(false, "by number"), (true, "by square")] {
+            let [fill, rust_fill, check, rust_check, index] = least_of_tables(w, h, by_square);
+            let (fill_ratio, check_ratio, to_index) = (fill / rust_fill, check / rust_check, fill / index);
+            println!("| {w} by {h} | {kind} | {fill:.2} | {rust_fill:.2} | {fill_ratio:.2} | {to_index:.2} | {check:.2} | {rust_check:.2} | {check_ratio:.2} |");
+        }
+    }
+}
+
+fn main() {
+    let mut random = Random::from(1);
+    lookups(&mut random);
+    lines(&mut random);
+    tables();
+}

@@ -1,0 +1,259 @@
+// The same algorithms in plain, safe Rust, to measure the library against. They are not inlined into the measurement, as a call into a library is not.
+
+fn accepted(w: u32, h: u32) -> bool {
+    (1..=65535).contains(&w) && (1..=65535).contains(&h)
+}
+
+fn even_half(length: u32) -> u32 {
+    let half = length / 2;
+    if length > 2 && half % 2 == 1 { half + 1 } else { half }
+}
+
+#[inline(never)]
+pub fn number_to_square(w: u32, h: u32, number: u32) -> Result<(u32, u32, u32), u32> {
+    if !accepted(w, h) {
+        return Err(1);
+    }
+    if number >= w * h {
+        return Err(3);
+    }
+    let (mut x, mut y) = (0i32, 0i32);
+    let (mut run, mut side) = ((1i32, 0i32), (0i32, 1i32));
+    let (mut a, mut b, mut i, mut blocks) = (w, h, number, 1u32);
+    while a != 1 && b != 1 {
+        if 2 * a > 3 * b {
+            let e = even_half(a);
+            if i < e * b {
+                a = e;
+            } else {
+                i -= e * b;
+                x += run.0 * e as i32;
+                y += run.1 * e as i32;
+                a -= e;
+            }
+        } else {
+            let e = even_half(b);
+            let m = a / 2;
+            if i < e * m {
+                (run, side) = (side, run);
+                (a, b) = (e, m);
+            } else if i - e * m < a * (b - e) {
+                i -= e * m;
+                x += side.0 * e as i32;
+                y += side.1 * e as i32;
+                b -= e;
+            } else {
+                i -= e * m + a * (b - e);
+                x += run.0 * (a as i32 - 1) + side.0 * (e as i32 - 1);
+                y += run.1 * (a as i32 - 1) + side.1 * (e as i32 - 1);
+                (run, side) = ((-side.0, -side.1), (-run.0, -run.1));
+                (a, b) = (e, a - m);
+            }
+        }
+        blocks += 1;
+    }
+    if blocks > 64 {
+        return Err(9);
+    }
+    let along = if b == 1 { run } else { side };
+    Ok(((x + along.0 * i as i32) as u32, (y + along.1 * i as i32) as u32, blocks))
+}
+
+#[inline(never)]
+pub fn square_to_number(w: u32, h: u32, x: u32, y: u32) -> Result<(u32, u32), u32> {
+    if !accepted(w, h) {
+        return Err(1);
+    }
+    if x >= w || y >= h {
+        return Err(2);
+    }
+    let (mut a, mut b, mut u, mut v, mut before, mut blocks) = (w, h, x, y, 0u32, 1u32);
+    while a != 1 && b != 1 {
+        if 2 * a > 3 * b {
+            let e = even_half(a);
+            if u < e {
+                a = e;
+            } else {
+                before += e * b;
+                u -= e;
+                a -= e;
+            }
+        } else {
+            let e = even_half(b);
+            let m = a / 2;
+            if v >= e {
+                before += e * m;
+                v -= e;
+                b -= e;
+            } else if u < m {
+                (u, v) = (v, u);
+                (a, b) = (e, m);
+            } else {
+                before += e * m + a * (b - e);
+                (u, v) = (e - 1 - v, a - 1 - u);
+                (a, b) = (e, a - m);
+            }
+        }
+        blocks += 1;
+    }
+    if blocks > 64 {
+        return Err(9);
+    }
+    Ok((before + if b == 1 { u } else { v }, blocks))
+}
+
+#[inline(never)]
+pub fn finish_square(w: u32, h: u32) -> Result<(u32, u32), u32> {
+    if !accepted(w, h) {
+        return Err(1);
+    }
+    Ok((w - 1, 0))
+}
+
+#[derive(Clone, Copy)]
+struct Block {
+    start: (i32, i32),
+    run: (i32, i32),
+    a: i32,
+    side: (i32, i32),
+    b: i32,
+}
+
+fn moved(s: (i32, i32), d: (i32, i32), n: i32) -> (i32, i32) {
+    (s.0 + d.0 * n, s.1 + d.1 * n)
+}
+
+fn against(d: (i32, i32)) -> (i32, i32) {
+    (-d.0, -d.1)
+}
+
+
+// Visits the places of a straight block's squares in order.
+fn straight(start: (i32, i32), along: (i32, i32), length: i32, w: i32, visit: &mut impl FnMut(u32)) {
+    for i in 0..length {
+        let (x, y) = moved(start, along, i);
+        visit((y * w + x) as u32);
+    }
+}
+
+// Visits the places of a block's squares in order, and counts the blocks of its division.
+fn walk(k: Block, w: i32, visit: &mut impl FnMut(u32)) -> u64 {
+    let Block { start, run, a, side, b } = k;
+    if b == 1 {
+        straight(start, run, a, w, visit);
+        1
+    } else if a == 1 {
+        straight(start, side, b, w, visit);
+        1
+    } else if 2 * a > 3 * b {
+        let e = even_half(a as u32) as i32;
+        1 + walk(Block { a: e, ..k }, w, visit) + walk(Block { start: moved(start, run, e), a: a - e, ..k }, w, visit)
+    } else {
+        let e = even_half(b as u32) as i32;
+        let m = a / 2;
+        let corner = moved(moved(start, run, a - 1), side, e - 1);
+        1 + walk(Block { start, run: side, a: e, side: run, b: m }, w, visit)
+            + walk(Block { start: moved(start, side, e), b: b - e, ..k }, w, visit)
+            + walk(Block { start: corner, run: against(side), a: e, side: against(run), b: a - m }, w, visit)
+    }
+}
+
+// The whole area as a block, if a table of this length can be filled or checked for it.
+fn whole(w: u32, h: u32, length: usize) -> Result<Block, u32> {
+    if !accepted(w, h) {
+        return Err(1);
+    }
+    if length as u64 != w as u64 * h as u64 {
+        return Err(4);
+    }
+    Ok(Block { start: (0, 0), run: (1, 0), a: w as i32, side: (0, 1), b: h as i32 })
+}
+
+#[inline(never)]
+pub fn fill(w: u32, h: u32, table: &mut [u32], by_square: bool) -> Result<u64, u32> {
+    let k = whole(w, h, table.len())?;
+    let mut number = 0;
+    Ok(if by_square {
+        walk(k, w as i32, &mut |place| {
+            table[place as usize] = number;
+            number += 1;
+        })
+    } else {
+        walk(k, w as i32, &mut |place| {
+            table[number as usize] = place;
+            number += 1;
+        })
+    })
+}
+
+// Right, or the first wrong place and the value due there.
+#[inline(never)]
+pub fn check(w: u32, h: u32, table: &[u32], by_square: bool) -> Result<Option<(u32, u32)>, u32> {
+    let k = whole(w, h, table.len())?;
+    let mut number = 0;
+    let mut first: Option<(u32, u32)> = None;
+    let mut look = |place: u32, due: u32| {
+        if table[place as usize] != due && first.is_none_or(|(least, _)| place < least) {
+            first = Some((place, due));
+        }
+    };
+    if by_square {
+        walk(k, w as i32, &mut |place| {
+            look(place, number);
+            number += 1;
+        });
+    } else {
+        walk(k, w as i32, &mut |place| {
+            look(number, place);
+            number += 1;
+        });
+    }
+    Ok(first)
+}
+
+fn number(field: &[u8]) -> Result<u32, u32> {
+    if field.len() > 10 || field.len() > 1 && field[0] == b'0' {
+        return Err(5);
+    }
+    let mut value = 0u64;
+    for &byte in field {
+        if !byte.is_ascii_digit() {
+            return Err(5);
+        }
+        value = value * 10 + (byte - b'0') as u64;
+    }
+    u32::try_from(value).map_err(|_| 5)
+}
+
+// The reply's kind and numbers; the area in force is altered as the line says.
+#[inline(never)]
+pub fn handle_line(area: &mut Option<(u32, u32)>, line: &[u8]) -> Result<[u32; 4], u32> {
+    let before = *area;
+    if line.starts_with(b"AREA") {
+        *area = None;
+    }
+    if line.len() > 64 {
+        return Err(8);
+    }
+    let mut fields = line.split(|&byte| byte == b' ');
+    let taken = [fields.next(), fields.next(), fields.next(), fields.next()];
+    match taken {
+        [Some(b"AREA"), Some(w), Some(h), None] if !w.is_empty() && !h.is_empty() => {
+            let (w, h) = (number(w)?, number(h)?);
+            let (x, y) = finish_square(w, h)?;
+            *area = Some((w, h));
+            Ok([1, w * h, x, y])
+        }
+        [Some(b"N"), Some(i), None, _] if !i.is_empty() => {
+            let i = number(i)?;
+            let (w, h) = before.ok_or(7u32)?;
+            number_to_square(w, h, i).map(|(x, y, blocks)| [2, x, y, blocks])
+        }
+        [Some(b"S"), Some(x), Some(y), None] if !x.is_empty() && !y.is_empty() => {
+            let (x, y) = (number(x)?, number(y)?);
+            let (w, h) = before.ok_or(7u32)?;
+            square_to_number(w, h, x, y).map(|(number, blocks)| [3, number, blocks, 0])
+        }
+        _ => Err(6),
+    }
+}
