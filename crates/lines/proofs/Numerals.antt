@@ -1,5 +1,5 @@
 -- Digits read one by one: what is due of the whole field is what is due of the rest, with the value so far, which is below ten to the number of digits.
-use mathlib.Core.Bool.{Bool, true, false, not, cond, _&&_}
+use mathlib.Core.Bool.{Bool, true, false, not, cond, _&&_, and-eq-true-iff}
 use mathlib.Core.List.{List, [], _∷_}
 use mathlib.Core.Path.{_≡_, refl, sym, ap, subst, _∙_}
 use Prim.Native.Nat.{ℕ, suc, _+_, _-_, _*_, _≤_, _<_, _^_}
@@ -42,39 +42,55 @@ pub ten-digits : (v i : ℕ) → v < 10 ^ i → i ≤ 10 → v < 10000000000
 ten-digits v i l m = lt-of-lt-of-le l (pow-le-pow-right (zero-lt-suc 9) m)
 
 -- how a field begins
-pub begun-not : (s : List ℕ) → length s < 1 → false ≡ well-begun s
+abbrev pub begun : List ℕ → Bool
+begun s = leb 1 (length s) && well-begun s
+
+pub begun-not : (s : List ℕ) → length s < 1 → false ≡ begun s
 begun-not [] l = refl
 begun-not (b ∷ s) l = absurd (omega arith)
 
-pub begun-single : (s : List ℕ) → 1 ≤ length s → length s < 2 → true ≡ well-begun s
+pub begun-single : (s : List ℕ) → 1 ≤ length s → length s < 2 → true ≡ begun s
 begun-single [] l m = absurd (omega arith)
 begun-single (b ∷ []) l m = refl
 begun-single (b ∷ c ∷ s) l m = absurd (omega arith)
 
-pub begun-by : (s : List ℕ) → 2 ≤ length s → not (eqb (getD s 0 0) 48) ≡ well-begun s
+pub begun-by : (s : List ℕ) → 2 ≤ length s → not (eqb (getD s 0 0) 48) ≡ begun s
 begun-by [] l = absurd (omega arith)
 begun-by (b ∷ []) l = absurd (omega arith)
-begun-by (b ∷ c ∷ s) l = refl
+begun-by (b ∷ c ∷ s) l = sym (rw (le-leb 1 (length (b ∷ c ∷ s)) (omega arith)))
 
--- four tests of which one fails
-no-second : (a c d : Bool) → (a && false && c && d) ≡ false
-no-second true c d = refl
-no-second false c d = refl
+-- five tests of which one fails
+no-begin : (a b c d e : Bool) → (a && d) ≡ false → (a && b && c && d && e) ≡ false
+no-begin false b c d e f = refl
+no-begin true false c d e f = refl
+no-begin true true false d e f = refl
+no-begin true true true d e f = rw f
 
-no-last : (a b c d : Bool) → (c && d) ≡ false → (a && b && c && d) ≡ false
-no-last false b c d e = refl
-no-last true false c d e = refl
-no-last true true c d e = e
+no-second : (a c d e : Bool) → (a && false && c && d && e) ≡ false
+no-second true c d e = refl
+no-second false c d e = refl
+
+no-value : (a b c d e : Bool) → (c && e) ≡ false → (a && b && c && d && e) ≡ false
+no-value false b c d e f = refl
+no-value true false c d e f = refl
+no-value true true false d e f = refl
+no-value true true true false e f = refl
+no-value true true true true e f = f
 
 -- a field that is no number, and one that is
 module _ (s : List ℕ) where
-  pub ill-begun : well-begun s ≡ false → NoNumber ≡ numeral s
-  unfolding numeral is-number
-  ill-begun e = sym (rw e)
+  -- the tests, and what they leave
+  tested : is-number s ≡ false → NoNumber ≡ numeral s
+  unfolding numeral
+  tested e = sym (rw e)
+
+  pub ill-begun : begun s ≡ false → NoNumber ≡ numeral s
+  unfolding is-number
+  ill-begun e = tested (no-begin (leb 1 (length s)) (leb (length s) 10) (all-digits s) (well-begun s) (leb (value s) 4294967295) e)
 
   pub too-long : 10 < length s → NoNumber ≡ numeral s
-  unfolding numeral is-number
-  too-long l = sym (rw (lt-leb (length s) 10 l) (ap (λ t. cond t (Value (value s)) NoNumber) (no-second (well-begun s) (all-digits s) (leb (value s) 4294967295))))
+  unfolding is-number
+  too-long l = tested (rw (lt-leb (length s) 10 l) (no-second (leb 1 (length s)) (all-digits s) (well-begun s) (leb (value s) 4294967295)))
 
   module _ (v : ℕ) (is : v ≡ due 0 s) where
     over-by : (t : Bool) → all-digits s ≡ t → 4294967295 < v → (all-digits s && leb (value s) 4294967295) ≡ false
@@ -82,18 +98,17 @@ module _ (s : List ℕ) where
     over-by false e l = rw e refl
 
     pub too-large : 4294967295 < v → NoNumber ≡ numeral s
-    unfolding numeral is-number
+    unfolding is-number
     too-large l =
-        sym
-        (ap (λ t. cond t (Value (value s)) NoNumber)
-        (no-last (well-begun s) (leb (length s) 10) (all-digits s) (leb (value s) 4294967295) (over-by (all-digits s) refl l)))
+        tested (no-value (leb 1 (length s)) (leb (length s) 10) (all-digits s) (well-begun s) (leb (value s) 4294967295) (over-by (all-digits s) refl l))
 
-    pub a-number : well-begun s ≡ true → length s ≤ 10 → v ≤ 4294967295 → Value v ≡ numeral s
+    pub a-number : begun s ≡ true → length s ≤ 10 → v ≤ 4294967295 → Value v ≡ numeral s
     unfolding numeral is-number
-    a-number begun few least = by (all-digits s) refl
+    a-number well few least = by (all-digits s) refl
       where
         by : (t : Bool) → all-digits s ≡ t → Value v ≡ numeral s
         by true e =
             let same : v ≡ value s = is ∙ rw e refl in
-            ap Value same ∙ sym (rw (begun, le-leb (length s) 10 few, e, le-leb (value s) 4294967295 (subst (λ (n : ℕ). n ≤ 4294967295) same least)))
+            let both = and-eq-true-iff (leb 1 (length s)) (well-begun s) .0 well in
+            ap Value same ∙ sym (rw (both .0, both .1, le-leb (length s) 10 few, e, le-leb (value s) 4294967295 (subst (λ (n : ℕ). n ≤ 4294967295) same least)))
         by false e = absurd (let over : v ≡ 4294967296 = is ∙ rw e refl in omega arith)

@@ -13,7 +13,7 @@ use Rattle.terms.specs.declared.Refusal.the-variants.{WrongShape, LongLine}
 use Rattle.lines.specs.declared.Field.{Field}
 use Rattle.lines.specs.declared.Request.the-variants.{Refused}
 use Rattle.lines.specs.Lines.{onto, fields, shaped, request}
-use Rattle.lines.specs.Reading.{word, none, field-at, piece, judged, three-read}
+use Rattle.lines.specs.Reading.{word, none, field-at, piece, made-of-three, three-read}
 use Rattle.lines.proofs.Words.{end-from, end-past}
 
 -- a line's first field, and the rest
@@ -130,11 +130,11 @@ module _ (line : List ℕ) (short : length line < none) where
   ends : (at : ℕ) → at ≡ none → from at ≡ []
   ends at e = ap from e ∙ from-past none short
 
-  neither : (b .end ≡ length line → ⊥) → (c .end ≡ length line → ⊥) → judged line a b c ≡ Refused WrongShape
-  unfolding judged
+  neither : (b .end ≡ length line → ⊥) → (c .end ≡ length line → ⊥) → made-of-three line a b c ≡ Refused WrongShape
+  unfolding made-of-three
   neither p q = rw (ne-eqb (b .end) (length line) p, ne-eqb (c .end) (length line) q)
 
-  one-field : ltb (a .end) (length line) ≡ false → judged line a b c ≡ shaped (fields line)
+  one-field : ltb (a .end) (length line) ≡ false → made-of-three line a b c ≡ shaped (fields line)
   unfolding shaped
   one-field e =
       let is = last 0 (omega arith) e in
@@ -150,8 +150,8 @@ module _ (line : List ℕ) (short : length line < none) where
     second-is : fields line ≡ piece line a ∷ piece line b ∷ from (b .next)
     second-is = first-is ∙ ap (λ ws. piece line a ∷ ws) (from-here (a .next) within-b)
 
-    two-read : ltb (b .end) (length line) ≡ false → judged line a b c ≡ shaped (fields line)
-    unfolding judged shaped
+    two-read : ltb (b .end) (length line) ≡ false → made-of-three line a b c ≡ shaped (fields line)
+    unfolding made-of-three shaped
     two-read e =
         let is = last (a .next) within-b e in
         rw (eq-eqb (b .end) (length line) (is .0))
@@ -167,14 +167,14 @@ module _ (line : List ℕ) (short : length line < none) where
       third-is : fields line ≡ piece line a ∷ piece line b ∷ piece line c ∷ from (c .next)
       third-is = second-is ∙ ap (λ ws. piece line a ∷ piece line b ∷ ws) (from-here (b .next) within-c)
 
-      all-read : ltb (c .end) (length line) ≡ false → judged line a b c ≡ shaped (fields line)
-      unfolding judged shaped
+      all-read : ltb (c .end) (length line) ≡ false → made-of-three line a b c ≡ shaped (fields line)
+      unfolding made-of-three shaped
       all-read e =
           let is = last (b .next) within-c e in
           rw (ne-eqb (b .end) (length line) not-b, eq-eqb (c .end) (length line) (is .0))
           (sym (ap shaped (third-is ∙ ap (λ ws. piece line a ∷ piece line b ∷ piece line c ∷ ws) (ends (c .next) (is .1)))))
 
-      too-many : ltb (c .end) (length line) ≡ true → judged line a b c ≡ shaped (fields line)
+      too-many : ltb (c .end) (length line) ≡ true → made-of-three line a b c ≡ shaped (fields line)
       unfolding shaped
       too-many e =
           let is = more (b .next) e in
@@ -185,15 +185,15 @@ module _ (line : List ℕ) (short : length line < none) where
   unfolding three-read
   shape-read = by-a (ltb (a .end) (length line)) refl
     where
-      by-c : (p : ltb (a .end) (length line) ≡ true) (q : ltb (b .end) (length line) ≡ true) (t : Bool) → ltb (c .end) (length line) ≡ t → judged line a b c ≡ shaped (fields line)
+      by-c : (p : ltb (a .end) (length line) ≡ true) (q : ltb (b .end) (length line) ≡ true) (t : Bool) → ltb (c .end) (length line) ≡ t → made-of-three line a b c ≡ shaped (fields line)
       by-c p q true e = too-many p q e
       by-c p q false e = all-read p q e
 
-      by-b : (p : ltb (a .end) (length line) ≡ true) (t : Bool) → ltb (b .end) (length line) ≡ t → judged line a b c ≡ shaped (fields line)
+      by-b : (p : ltb (a .end) (length line) ≡ true) (t : Bool) → ltb (b .end) (length line) ≡ t → made-of-three line a b c ≡ shaped (fields line)
       by-b p true e = by-c p e (ltb (c .end) (length line)) refl
       by-b p false e = two-read p e
 
-      by-a : (t : Bool) → ltb (a .end) (length line) ≡ t → judged line a b c ≡ shaped (fields line)
+      by-a : (t : Bool) → ltb (a .end) (length line) ≡ t → made-of-three line a b c ≡ shaped (fields line)
       by-a true e = by-b e (ltb (b .end) (length line)) refl
       by-a false e = one-field e
 

@@ -1,5 +1,5 @@
 -- A field and a word compared byte by byte, and what the fields behind the word make of a line.
-use mathlib.Core.Bool.{Bool, true, false, _&&_, _||_, and-false, and-true, or-true}
+use mathlib.Core.Bool.{true, false, _&&_, and-false, and-true, or-true}
 use mathlib.Core.List.{List, [], _∷_}
 use mathlib.Core.Path.{_≡_, refl, sym, ap, ap₂, _∙_}
 use Prim.Native.Nat.{ℕ, _≤_, _<_}

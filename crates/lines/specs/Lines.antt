@@ -10,16 +10,17 @@ use Rattle.lines.specs.declared.Numeral.the-variants.{Value, NoNumber}
 use Rattle.lines.specs.declared.Request.{Request}
 use Rattle.lines.specs.declared.Request.the-variants.{SetArea, AskNumber, AskSquare, Refused}
 
--- "with exactly one space between fields": the fields of a line are what stands between its spaces (byte 32), and may be empty.
+-- A byte put before the first of some pieces, or a piece of its own where there is none.
 abbrev pub onto : ℕ → List (List ℕ) → List (List ℕ)
 onto b [] = (b ∷ []) ∷ []
 onto b (f ∷ fs) = (b ∷ f) ∷ fs
 
+-- "with exactly one space between fields": the fields of a line are what stands between its spaces (byte 32), and may be empty.
 unfoldable pub fields : List ℕ → List (List ℕ)
 fields [] = [] ∷ []
 fields (b ∷ bs) = cond (eqb b 32) ([] ∷ fields bs) (onto b (fields bs))
 
--- "A number is 1 to 10 digits": bytes 48 to 57.
+-- "digits": bytes 48 to 57.
 abbrev pub is-digit : ℕ → Bool
 is-digit b = leb 48 b && leb b 57
 
@@ -29,7 +30,7 @@ all-digits (b ∷ bs) = is-digit b && all-digits bs
 
 -- "first digit not 0 unless it is the single digit"
 abbrev pub well-begun : List ℕ → Bool
-well-begun [] = false
+well-begun [] = true
 well-begun (b ∷ []) = true
 well-begun (b ∷ c ∷ bs) = not (eqb b 48)
 
@@ -41,9 +42,9 @@ value-on n (b ∷ bs) = value-on (n * 10 + (b - 48)) bs
 abbrev pub value : List ℕ → ℕ
 value f = value-on 0 f
 
--- "value at most 4,294,967,295"
+-- "A number is 1 to 10 digits, first digit not 0 unless it is the single digit, value at most 4,294,967,295."
 unfoldable pub is-number : List ℕ → Bool
-is-number f = well-begun f && leb (length f) 10 && all-digits f && leb (value f) 4294967295
+is-number f = leb 1 (length f) && leb (length f) 10 && all-digits f && well-begun f && leb (value f) 4294967295
 
 unfoldable pub numeral : List ℕ → Numeral
 numeral f = cond (is-number f) (Value (value f)) NoNumber
@@ -64,7 +65,7 @@ same-bytes [] (b ∷ bs) = false
 same-bytes (a ∷ cs) [] = false
 same-bytes (a ∷ cs) (b ∷ bs) = eqb a b && same-bytes cs bs
 
--- What a line of the right shape asks, of one field or of two: an empty field is refusal 6, and one that is not a number refusal 5.
+-- What a known word asks with the one field, or the two, behind it: an empty field is refusal 6, and one that is not a number refusal 5.
 abbrev pub is-empty : List ℕ → Bool
 is-empty [] = true
 is-empty (b ∷ bs) = false

@@ -1,4 +1,5 @@
--- How the reader finds the fields of a line: where each begins and ends, and where the next begins.
+-- How the reader finds the fields of a line: where each begins and ends, and where the next begins. Document 01, "Order lines": "The reader takes the
+-- fields of a line one at a time, left to right."
 use mathlib.Core.Bool.{cond, _&&_}
 use mathlib.Core.List.{List, [], _∷_}
 use Prim.Native.Nat.{ℕ, _+_, _-_}
@@ -31,8 +32,8 @@ unfoldable pub piece : List ℕ → Field → List ℕ
 piece line f = cond (leb (f .start) (f .end) && leb (f .end) (length line)) (take (f .end - f .start) (drop (f .start) line)) []
 
 -- What the first three fields of a line make of it: the second or the third has to end where the line ends.
-unfoldable pub judged : (line : List ℕ) (a b c : Field) → Request
-judged line a b c =
+unfoldable pub made-of-three : (line : List ℕ) (a b c : Field) → Request
+made-of-three line a b c =
     cond (eqb (b .end) (length line)) (two-fields (piece line a) (piece line b))
     (cond (eqb (c .end) (length line)) (three-fields (piece line a) (piece line b) (piece line c)) (Refused WrongShape))
 
@@ -42,4 +43,4 @@ three-read line =
     let a = field-at line 0 in
     let b = field-at line (a .next) in
     let c = field-at line (b .next) in
-    judged line a b c
+    made-of-three line a b c

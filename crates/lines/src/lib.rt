@@ -1,13 +1,14 @@
 // The fields of an order line: the reader that takes them one at a time, the numbers in them, and what the line asks.
 use terms::Refusal;
-ghost use mathlib.Core.Bool.{cond};
+ghost use mathlib.Core.Bool.{cond, _&&_};
 ghost use mathlib.Core.List.{[], _∷_};
 ghost use mathlib.Core.Path.{_≡_};
 ghost use Prim.Native.Nat.{_≤_};
+ghost use lib.Dec.{leb};
 ghost use lib.ListN.{length};
 ghost use Rattle.lines.specs.declared.Request.the-variants.{SetArea, AskNumber, AskSquare};
 ghost use Rattle.lines.specs.Lines.{all-digits, well-begun, value, numeral, same-bytes, AREA, of-one, of-two, two-fields, three-fields, request};
-ghost use Rattle.lines.specs.Reading.{field-at, piece, judged, three-read};
+ghost use Rattle.lines.specs.Reading.{field-at, piece, made-of-three, three-read};
 
 // What a line asks.
 pub enum Request {
@@ -18,10 +19,10 @@ pub enum Request {
 }
 
 // Where a field's bytes begin and end, and where the next field begins: at a place that no line has if there is none.
-pub struct Field {
-    pub start: usize,
-    pub end: usize,
-    pub next: usize,
+struct Field {
+    start: usize,
+    end: usize,
+    next: usize,
 }
 
 // Where the bytes from a place on that are no space end.
@@ -39,7 +40,7 @@ fn end_of(line: &[u8], at: usize) -> usize
 }
 
 // The field of a line that begins at a place.
-pub fn field_at(line: &[u8], at: usize) -> Field
+fn field_at(line: &[u8], at: usize) -> Field
     ensures { λ r. ⌜ r ≡ field-at (now (line .entry)) at ⌝ }
 {
     let end = end_of(line, at);
@@ -58,27 +59,27 @@ pub fn field_at(line: &[u8], at: usize) -> Field
 }
 
 // A line and a place in it: the fields are taken one at a time, left to right.
-pub struct Reader<'a> {
-    pub line: &'a [u8],
-    pub at: usize,
+struct Reader<'a> {
+    line: &'a [u8],
+    at: usize,
 }
 
 // A reader at a line's first field.
-pub fn over<'a>(line: &'a [u8]) -> Reader<'a>
+fn over<'a>(line: &'a [u8]) -> Reader<'a>
     ensures { λ r. ⌜ (r .line ≡ line .entry) × (r .at ≡ 0) ⌝ }
 {
     Reader { line, at: 0 }
 }
 
 // The field that a reader takes, at its place.
-pub fn taken<'a>(r: Reader<'a>) -> Field
+fn taken<'a>(r: Reader<'a>) -> Field
     ensures { λ f. ⌜ f ≡ field-at (now (r .entry .line)) (r .entry .at) ⌝ }
 {
     field_at(r.line, r.at)
 }
 
 // The reader behind a field.
-pub fn behind<'a>(r: Reader<'a>, f: Field) -> Reader<'a>
+fn behind<'a>(r: Reader<'a>, f: Field) -> Reader<'a>
     ensures { λ q. ⌜ (q .line ≡ r .entry .line) × (q .at ≡ f .next) ⌝ }
 {
     Reader {
@@ -129,7 +130,7 @@ fn digits_value(s: &[u8]) -> u64
 
 // Whether a field has a first byte, which is not a 0 with others behind it.
 fn begins_well(s: &[u8]) -> bool
-    ensures { λ r. ⌜ r ≡ well-begun (now (s .entry)) ⌝ }
+    ensures { λ r. ⌜ r ≡ (leb 1 (length (now (s .entry))) && well-begun (now (s .entry))) ⌝ }
 {
     if s.len() < 1 {
         return false;
@@ -141,7 +142,7 @@ fn begins_well(s: &[u8]) -> bool
 }
 
 // A field's number: 1 to 10 digits, no needless 0 before them, at most 4,294,967,295.
-pub fn number(s: &[u8]) -> Numeral
+fn number(s: &[u8]) -> Numeral
     ensures { λ r. ⌜ r ≡ numeral (now (s .entry)) ⌝ }
 {
     if !begins_well(s) {
@@ -248,7 +249,7 @@ fn three_fields(word: &[u8], a: &[u8], b: &[u8]) -> Request
 
 // What a line asks whose first three fields, as far as it has them, are a, b and c: the last of them has to end where the line ends.
 fn judge(line: &[u8], a: Field, b: Field, c: Field) -> Request
-    ensures { λ r. ⌜ r ≡ judged (now (line .entry)) a b c ⌝ }
+    ensures { λ r. ⌜ r ≡ made-of-three (now (line .entry)) a b c ⌝ }
 {
     if b.end == line.len() {
         return two_fields(bytes_of(line, a), bytes_of(line, b));

@@ -4,7 +4,7 @@ use mathlib.Core.Path.{sym, ap₂, _∙_}
 use borrow.Author.Tests.{eq-eqb, ne-eqb}
 use lib.ListN.{length}
 use Rattle.lines.specs.Lines.{two-fields, three-fields}
-use Rattle.lines.specs.Reading.{judged}
+use Rattle.lines.specs.Reading.{made-of-three}
 use Rattle.lines.proofs.judge.Statement.{statement}
 use Rattle.lines.proofs.judge.Tie as tie
 
@@ -18,7 +18,7 @@ two-fields-requires : tie.Need-two-fields-requires
 two-fields-requires c κs = search needs
 
 returns : tie.Need-returns
-unfolding judged
+unfolding made-of-three
 returns c = c .two-fields .ensures ∙ ap₂ two-fields (c .before .before .bytes-of .ensures) (c .before .bytes-of2 .ensures) ∙ sym (rw (eq-eqb (c .before .before .before .before .before .before .args .b .end) (length (c .before .before .before .before .before .before .args .line .now)) (c .before .before .before .if1 .taken)))
 
 bytes-of-requires-3 : tie.Need-bytes-of-requires-3
@@ -34,11 +34,11 @@ three-fields-requires : tie.Need-three-fields-requires
 three-fields-requires c κs = search needs
 
 returns-2 : tie.Need-returns-2
-unfolding judged
+unfolding made-of-three
 returns-2 c = c .three-fields .ensures ∙ (λ i. three-fields (c .before .before .before .bytes-of3 .ensures i) (c .before .before .bytes-of4 .ensures i) (c .before .bytes-of5 .ensures i)) ∙ sym (rw (ne-eqb (c .before .before .before .before .before .before .before .before .before .args .b .end) (length (c .before .before .before .before .before .before .before .before .before .args .line .now)) (c .before .before .before .before .before .before .if1 .left), eq-eqb (c .before .before .before .before .before .before .before .before .before .args .c .end) (length (c .before .before .before .before .before .before .before .before .before .args .line .now)) (c .before .before .before .before .if2 .taken)))
 
 returns-3 : tie.Need-returns-3
-unfolding judged
+unfolding made-of-three
 returns-3 c = sym (rw (ne-eqb (c .before .before .before .before .before .args .b .end) (length (c .before .before .before .before .before .args .line .now)) (c .before .before .if1 .left), ne-eqb (c .before .before .before .before .before .args .c .end) (length (c .before .before .before .before .before .args .line .now)) (c .if2 .left)))
 
 pub judge-spec : {M : Type 1} → statement M

@@ -37,7 +37,7 @@ use denote.Triple.Table.{entered, cited}
 use denote.Triple.Walked.{says, Stays, stay-none-slice, walkOf, goes-none-slice, Walks, ends-at, walked, walk-meets}
 use denote.Exit.{yes}
 use denote.Triple.Clauses.{ensured, lasts}
-use Rattle.lines.specs.Reading.{field-at, judged, three-read}
+use Rattle.lines.specs.Reading.{field-at, made-of-three, three-read}
 use Rattle.lines.specs.declared.Field.{Field}
 use Rattle.lines.specs.declared.Reader.{Reader}
 use Rattle.lines.specs.declared.Request.{Request}
@@ -85,7 +85,7 @@ field₂ l = field-at l (field₁ l .next)
 abbrev field₃ : List ℕ → Field
 field₃ l = field-at l (field₂ l .next)
 
-is-three-read : (l : List ℕ) → judged l (field₁ l) (field₂ l) (field₃ l) ≡ three-read l
+is-three-read : (l : List ℕ) → made-of-three l (field₁ l) (field₂ l) (field₃ l) ≡ three-read l
 unfolding three-read
 is-three-read l = refl
 
@@ -198,10 +198,10 @@ module _ {M : Type 1} (𝓤 : URA M) (H : Heap 𝓤) (A : Atoms 𝓤) (W : Given
       -- [what is passed; what s owns; the token]
       move ! (2 ∷ 0 ∷ []) $ use2 W (raw (Judge 𝓤 H A mem run .pre (to-judge x y z))) (qed W ((‵ (flft κ q) ⊛ ‵ ftrue) ∷ ‵ (owns (ShrSlice (named 0) κ u8 ∷ S.the-row ∷ S.the-row ∷ S.the-row ∷ []) (s, (a, (b, (c, tt)))) (v ∷ [], (x ∷ [], (y ∷ [], (z ∷ [], tt))))) ∷ []) ∵ join ! $ frame ! $ done !) $ frame ! $ done !
 
-  judge-said : (t : Request) → ent 𝓤 (ensured 𝓤 H A judge.ended (judge.clauses 𝓤 H A mem run) (κ, tt) (s, (a, (b, (c, tt)))) tt t) (fact 𝓤 (t ≡ judged (now s) a b c))
-  judge-said t = exE 𝓤 _ (λ ws. snd∗ 𝓤 (sem 𝓤 H A (lasts judge.ended (κ, tt) (s, (a, (b, (c, tt)))) ws)) (fact 𝓤 (t ≡ judged (now s) a b c)))
+  judge-said : (t : Request) → ent 𝓤 (ensured 𝓤 H A judge.ended (judge.clauses 𝓤 H A mem run) (κ, tt) (s, (a, (b, (c, tt)))) tt t) (fact 𝓤 (t ≡ made-of-three (now s) a b c))
+  judge-said t = exE 𝓤 _ (λ ws. snd∗ 𝓤 (sem 𝓤 H A (lasts judge.ended (κ, tt) (s, (a, (b, (c, tt)))) ws)) (fact 𝓤 (t ≡ made-of-three (now s) a b c)))
 
-  exits : (t : Request) (u : Val) → t ≡ judged (now s) a b c → ent 𝓤 (⋆ 𝓤 H A (‵ (Q.the-row .own t (u ∷ [])) ∷ (‵ (flft κ q) ⊛ ‵ ftrue) ∷ ‵ Own ∷ [])) (Post u)
+  exits : (t : Request) (u : Val) → t ≡ made-of-three (now s) a b c → ent 𝓤 (⋆ 𝓤 H A (‵ (Q.the-row .own t (u ∷ [])) ∷ (‵ (flft κ q) ⊛ ‵ ftrue) ∷ ‵ Own ∷ [])) (Post u)
   exits t u e =
       qed W (‵ (Q.the-row .own t (u ∷ [])) ∷ (‵ (flft κ q) ⊛ ‵ ftrue) ∷ ‵ Own ∷ []) ∵
       suffices ! _ (ends-at 𝓤 H A read.ended stayed (read.clauses 𝓤 H A mem run) W (((κ, tt), (q, tt), tt, (s, tt), (v ∷ [], tt)), tt) u t (tt, tt) (tt, tt)) $ says ! (e ∙ is-three-read (now s)) $
@@ -265,7 +265,7 @@ module _ {M : Type 1} (𝓤 : URA M) (H : Heap 𝓤) (A : Atoms 𝓤) (W : Given
         use2 W (raw (Judge 𝓤 H A mem run .pre (to-judge x y z)) ⊛ ‵ Own) (goes-judge x y z is-a is-b is-c) $ split ! $
         calls-at ! fm (Judge 𝓤 H A mem run) known-judge (to-judge x y z) (and-then ! (load ! (from ! (stop !)) (look ! 24 refl)) (and-then ! (load ! (from ! (stop !)) (look ! 20 refl)) (and-then ! (load ! (from ! (stop !)) (look ! 16 refl)) (and-then ! (load ! (from ! (stop !)) (look ! 12 refl)) (no-more !))))) (λ u.
         use1 W (later (some (λ (t : Request). ((‵ (flft κ q) ⊛ ‵ ftrue) ⊛ ‵ (Q.the-row .own t (u ∷ []))) ⊛ raw (ensured 𝓤 H A judge.ended (judge.clauses 𝓤 H A mem run) (κ, tt) (s, (a, (b, (c, tt)))) tt t)))) (id⊢ 𝓤 _) $ await ! tt $ pick ! (λ t.
-        split ! $ move ! (1 ∷ []) $ use1 W (raw (fact 𝓤 (t ≡ judged (now s) a b c))) (judge-said t) $ heard ! (t ≡ judged (now s) a b c) (λ e. split ! $
+        split ! $ move ! (1 ∷ []) $ use1 W (raw (fact 𝓤 (t ≡ made-of-three (now s) a b c))) (judge-said t) $ heard ! (t ≡ made-of-three (now s) a b c) (λ e. split ! $
         -- [the result; the token; what s owns; _12; …]
         move ! (1 ∷ []) $ peeks ! Q.the-row (Is Q.the-row) (shows 𝓤 H A Q.the-row) t (u ∷ []) (λ is. land ! (from ! (stop !)) (init ! 27 refl (EL.lawful Q.the-type Q′.the-laws 𝓤 H A W tt .typed t _ is .0)) $
         returns ! (look ! 27 refl) $ forget ! 3 refl $ forget ! 5 refl $ forget ! 7 refl $ forget ! 9 refl $ forget ! 11 refl $ forget ! 13 refl $ forget ! 15 refl $ forget ! 17 refl $ forget ! 19 refl $ forget ! 21 refl $ forget ! 23 refl $ forget ! 25 refl $ forget ! 27 refl $
