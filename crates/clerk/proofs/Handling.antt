@@ -1,7 +1,7 @@
 -- A reply from a library call's figures, and the clerk behind a line.
 use mathlib.Core.Bool.{Bool, true, false}
 use mathlib.Core.List.{List, [], _∷_}
-use mathlib.Core.Path.{_≡_, refl, sym, ap}
+use mathlib.Core.Path.{_≡_, refl, sym, ap, _∙_}
 use Prim.Native.Nat.{ℕ, _*_, _<_}
 use native.Mathlib.Omega.{arith}
 use types.Run.{OneOf, miss}
@@ -18,6 +18,7 @@ use Rattle.lines.specs.declared.Request.the-variants.{SetArea, AskNumber, AskSq
 use Rattle.lines.proofs.Request.{the-type}
 use Rattle.lines.proofs.Shapes.{other-length}
 use Rattle.lines.specs.Lines.{AREA}
+use Rattle.clerk.specs.declared.Clerk.{Clerk}
 use Rattle.clerk.specs.declared.Clerk.the-variants.{NoArea}
 use Rattle.clerk.specs.Clerk as spec
 
@@ -36,12 +37,19 @@ found-fits w h x y e = by (accepted w h) refl
         let found : 0 ≡ finish-square w h .refusal = ap (λ f. f .refusal) e in
         absurd (omega arith)
 
--- a line that begins with AREA and sets no area
-pub none-set : (q : Request) → OneOf (1 ∷ 2 ∷ 3 ∷ []) (tagOf the-type q) → NoArea ≡ spec.set-by q
-none-set (SetArea w h) k = absurd (miss (1 ∷ 2 ∷ 3 ∷ []) 0 tt k)
-none-set (AskNumber i) k = refl
-none-set (AskSquare x y) k = refl
-none-set (Refused r) k = refl
+-- the clerk behind a refused line, which begins with AREA or does not, and behind one that asks
+module _ (clerk : Clerk) {begins : Bool} {q : Request} {r : Refusal} (is : q ≡ Refused r) where
+  pub left-none : begins ≡ true → NoArea ≡ spec.left-by clerk begins q
+  left-none e = sym (ap (spec.left-by clerk begins) is ∙ rw e refl)
+
+  pub left-alone : begins ≡ false → clerk ≡ spec.left-by clerk begins q
+  left-alone e = sym (ap (spec.left-by clerk begins) is ∙ rw e refl)
+
+pub left-asked : (clerk : Clerk) (begins : Bool) (q : Request) → OneOf (1 ∷ 2 ∷ []) (tagOf the-type q) → clerk ≡ spec.left-by clerk begins q
+left-asked clerk begins (SetArea w h) k = absurd (miss (1 ∷ 2 ∷ []) 0 tt k)
+left-asked clerk begins (AskNumber i) k = refl
+left-asked clerk begins (AskSquare x y) k = refl
+left-asked clerk begins (Refused r) k = absurd (miss (1 ∷ 2 ∷ []) 3 tt k)
 
 pub too-short : (line : List ℕ) → length line < 4 → false ≡ spec.begins-area line
 too-short line l = sym (other-length (take 4 line) AREA (λ e. let size = length-take 4 line in omega arith))

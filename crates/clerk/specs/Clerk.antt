@@ -50,22 +50,25 @@ due clerk (Requests.the-variants.AskNumber i) = under clerk (λ area. told Cell 
 due clerk (Requests.the-variants.AskSquare x y) = under clerk (λ area. told Number [] (square-to-number (area .w) (area .h) x y))
 due clerk (Requests.the-variants.Refused r) = says Refused (refusal-number r ∷ [])
 
--- "An accepted AREA line sets the area for the lines below it. A refused line whose first four bytes are AREA leaves no area in force, for any reason of
--- refusal. No other line alters the area".
-abbrev pub begins-area : List ℕ → Bool
-begins-area line = same-bytes (take 4 line) AREA
-
+-- The clerk with an area in force, or with none where the area is not accepted.
 abbrev pub in-force : Area → Clerk
 in-force area = cond (accepted (area .w) (area .h)) (InForce area) NoArea
 
-abbrev pub set-by : Requests.Request → Clerk
-set-by (Requests.the-variants.SetArea w h) = in-force (record { w = w; h = h })
-set-by (Requests.the-variants.AskNumber i) = NoArea
-set-by (Requests.the-variants.AskSquare x y) = NoArea
-set-by (Requests.the-variants.Refused r) = NoArea
+abbrev pub begins-area : List ℕ → Bool
+begins-area line = same-bytes (take 4 line) AREA
+
+-- The clerk behind a line, by what the line asks and whether it begins with AREA.
+abbrev pub left-by : Clerk → (begins : Bool) → Requests.Request → Clerk
+-- "An accepted AREA line sets the area for the lines below it." One that is refused for its area leaves none.
+left-by clerk begins (Requests.the-variants.SetArea w h) = in-force (record { w = w; h = h })
+-- "A refused line whose first four bytes are AREA leaves no area in force, for any reason of refusal."
+left-by clerk begins (Requests.the-variants.Refused r) = cond begins NoArea clerk
+-- "No other line alters the area".
+left-by clerk begins (Requests.the-variants.AskNumber i) = clerk
+left-by clerk begins (Requests.the-variants.AskSquare x y) = clerk
 
 unfoldable pub after : Clerk → List ℕ → Clerk
-after clerk line = cond (begins-area line) (set-by (request line)) clerk
+after clerk line = left-by clerk (begins-area line) (request line)
 
 unfoldable pub reply : Clerk → List ℕ → Said
 reply clerk line = due clerk (request line)

@@ -5,13 +5,11 @@ use curve::SquareAnswer;
 use lines::Request;
 use terms::Area;
 use terms::Refusal;
-ghost use mathlib.Core.Bool.{cond};
 ghost use mathlib.Core.List.{[], _∷_};
 ghost use mathlib.Core.Path.{_≡_};
 ghost use Prim.Native.Nat.{_*_};
 ghost use Rattle.curve.specs.Lookups.{number-to-square, square-to-number, finish-square};
-ghost use Rattle.lines.specs.Lines.{request};
-ghost use Rattle.clerk.specs.Clerk.{Area-set, Cell, Number, said, told, due, begins-area, in-force, set-by, after, reply};
+ghost use Rattle.clerk.specs.Clerk.{Area-set, Cell, Number, said, told, due, in-force, begins-area, left-by, after, reply};
 
 // The area in force, if there is one.
 pub enum Clerk {
@@ -127,24 +125,20 @@ pub fn clerk_under(area: Area) -> Clerk
     Clerk::NoArea
 }
 
-// The clerk behind a line that begins with AREA.
-fn clerk_set(asked: Request) -> Clerk
-    ensures { λ r. ⌜ r ≡ set-by asked ⌝ }
+// The clerk behind a line.
+fn clerk_after(clerk: Clerk, line: &[u8], asked: Request) -> Clerk
+    ensures { λ r. ⌜ r ≡ left-by clerk (begins-area (now (line .entry))) asked ⌝ }
 {
     match asked {
         Request::SetArea { w, h } => clerk_under(Area { w: w, h: h }),
-        _ => Clerk::NoArea,
+        Request::Refused(_) => {
+            if begins_with_area(line) {
+                return Clerk::NoArea;
+            }
+            clerk
+        }
+        _ => clerk,
     }
-}
-
-// The clerk behind any line.
-fn clerk_after(clerk: Clerk, line: &[u8], asked: Request) -> Clerk
-    ensures { λ r. ⌜ r ≡ cond (begins-area (now (line .entry))) (set-by asked) clerk ⌝ }
-{
-    if begins_with_area(line) {
-        return clerk_set(asked);
-    }
-    clerk
 }
 
 impl Clerk {

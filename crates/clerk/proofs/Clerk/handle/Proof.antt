@@ -1,8 +1,7 @@
 -- `clerk::Clerk::handle` meets its contract: reply and clerk are composed from the request.
 use borrow.Author.Needs.{needs}
 use mathlib.Core.Path.{ap, _∙_}
-use mathlib.Core.Bool.{cond}
-use Rattle.clerk.specs.Clerk.{due, begins-area, set-by, after, reply}
+use Rattle.clerk.specs.Clerk.{due, begins-area, left-by, after, reply}
 use Rattle.clerk.proofs.Clerk.handle.Statement.{statement}
 use Rattle.clerk.proofs.Clerk.handle.Tie as tie
 
@@ -17,7 +16,7 @@ clerk-after-requires c κs = search needs
 
 returns : tie.Need-returns
 unfolding after reply
-returns c = (c .clerk-after .ensures ∙ ap (λ q. cond (begins-area (c .before .before .before .before .args .line .now)) (set-by q) (c .before .before .before .before .args .self)) (c .before .before .request-of .ensures), c .before .reply-to .ensures ∙ ap (due (c .before .before .before .before .args .self)) (c .before .before .request-of .ensures))
+returns c = (c .clerk-after .ensures ∙ ap (left-by (c .before .before .before .before .args .self) (begins-area (c .before .before .before .before .args .line .now))) (c .before .before .request-of .ensures), c .before .reply-to .ensures ∙ ap (due (c .before .before .before .before .args .self)) (c .before .before .request-of .ensures))
 
 pub handle-spec : {M : Type 1} → statement M
 handle-spec =
