@@ -53,7 +53,7 @@ number-by w h n values true true p q e = (p, ltb-true n (w * h) q)
 number-by w h n values true false p q e = absurd (omega (arith, ap (λ f. f .refusal) (number-outside w h p n (ltb-false n (w * h) q) ∙ e)))
 number-by w h n values false b p q e = absurd (omega (arith, ap (λ f. f .refusal) (square-limit w h p n ∙ e)))
 
-number-asked : (w h n : ℕ) (values : List ℕ) → number-to-square w h n ≡ answered values → (accepted w h ≡ true) × (n < w * h)
+pub number-asked : (w h n : ℕ) (values : List ℕ) → number-to-square w h n ≡ answered values → (accepted w h ≡ true) × (n < w * h)
 number-asked w h n values e = number-by w h n values (accepted w h) (ltb n (w * h)) refl refl e
 
 square-by : (w h x y : ℕ) (values : List ℕ) (a b c : Bool) → accepted w h ≡ a → ltb x w ≡ b → ltb y h ≡ c → square-to-number w h x y ≡ answered values

@@ -1,15 +1,38 @@
--- What the promises across the boundary turn away, for every call by one law each: a call that leaves its slice as it is, and one that finds every
--- slice too short.
-use mathlib.Core.Bool.{true}
-use mathlib.Core.List.{List, [], _++_}
-use mathlib.Core.Path.{_≡_, refl, sym, ap, _∙_}
-use Prim.Native.Nat.{ℕ, _≤_}
+-- What the promises across the boundary come to: filled tables hold what the lookups say, and the results of a call are the only ones; turned away, for
+-- every call by one law each, are one that leaves its slice as it is, one that finds every slice too short, and a fill that leaves its table as it is.
+use mathlib.Core.Bool.{Bool, true}
+use mathlib.Core.List.{List, [], _∷_, _++_}
+use mathlib.Core.Path.{_≡_, refl, sym, ap, ap₂, _∙_}
+use Prim.Native.Nat.{ℕ, _+_, _*_, _≤_}
 use native.Mathlib.Omega.{arith}
 use borrow.Author.Tests.{le-leb}
 use lib.Dec.{leb}
 use lib.ListN.{length, drop, getD, replicate, length-replicate, getD-replicate, drop-of-length-le}
-use Rattle.terms.specs.Terms.{Figures}
-use Rattle.exports.specs.Boundary.{returned, written}
+use Rattle.terms.specs.Terms.{Figures, answered}
+use Rattle.terms.proofs.Laws.{limits}
+use Rattle.curve.specs.Lookups.{number-to-square, square-to-number}
+use Rattle.curve.proofs.Promises.{number-answered, number-asked, square-back}
+use Rattle.tables.specs.Tables.{by-number, by-square, due-by, fill}
+use Rattle.tables.proofs.Promises.{number-holds, kinds-inverse, fills-nothing}
+use Rattle.exports.specs.Boundary.{returned, written, filled}
+
+-- Demand 2: "filled tables hold what the lookups say".
+pub by-number-holds : (w h i x y k : ℕ) → number-to-square w h i ≡ answered (x ∷ y ∷ k ∷ []) → getD (by-number w h) i 0 ≡ y * w + x
+by-number-holds w h i x y k e =
+    let was = number-asked w h i (x ∷ y ∷ k ∷ []) e in
+    let is = sym (number-answered w h (was .0) i (was .1)) ∙ e in
+    number-holds w h i (was .1) ∙ ap₂ (λ b a. b * w + a) (ap (λ f. getD (f .values) 1 0) is) (ap (λ f. getD (f .values) 0 0) is)
+
+pub by-square-holds : (w h x y n k : ℕ) → square-to-number w h x y ≡ answered (n ∷ k ∷ []) → getD (by-square w h) (y * w + x) 0 ≡ n
+by-square-holds w h x y n k e =
+    let back = square-back w h x y n k e in
+    let was = number-asked w h n (x ∷ y ∷ k ∷ []) back in
+    let all = limits w h (was .0) in
+    ap (λ p. getD (by-square w h) p 0) (sym (by-number-holds w h n x y k back)) ∙ kinds-inverse w h (all .w-least) (all .h-least) n (was .1) .0
+
+-- What is returned and what is left in the slice are equations, so that two results that meet a promise are one.
+pub result-one : {r s r′ : ℕ} {l m l′ : List ℕ} → (r ≡ r′) × (l ≡ l′) → (s ≡ r′) × (m ≡ l′) → (r ≡ s) × (l ≡ m)
+result-one p q = (p .0 ∙ sym (q .0), p .1 ∙ sym (q .1))
 
 module _ (n : ℕ) (f : Figures) where
   -- a slice of n places that holds one value
@@ -38,3 +61,7 @@ module _ (n : ℕ) (f : Figures) where
       let told : returned n f (full 0) ≡ f .refusal = rw (has-room 0) refl in
       let other : 255 ≡ f .refusal = promise (full 0) ∙ told in
       omega arith
+
+-- A fill of either kind that leaves its table as it is, with room for the count.
+pub table-left-alone : (kind : Bool) → ((w h : ℕ) (t : List ℕ) → t ≡ filled (fill w h t) (due-by kind w h) t (0 ∷ [])) → ⊥
+table-left-alone kind promise = fills-nothing kind promise

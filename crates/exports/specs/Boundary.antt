@@ -1,4 +1,5 @@
--- What a call across the boundary returns and writes, given the figures of its answer and a slice for n values.
+-- What a call across the boundary returns and writes, given the figures of its answer and a slice for n values: document 01, "the number, all else 0" and
+-- "the table is unaltered", for slices of any length.
 use mathlib.Core.Bool.{cond}
 use mathlib.Core.List.{List, _++_}
 use Prim.Native.Nat.{ℕ}

@@ -1,4 +1,5 @@
--- What a line comes to for a caller that keeps the area in force as two numbers: the clerk's promise in figures.
+-- What a line comes to for a caller that keeps the area in force as two numbers: document 01's replies "AREA w h n fx fy; CELL x y k; NUMBER i k; REFUSED r"
+-- and the area in force, as figures.
 use mathlib.Core.List.{List, [], _∷_, _++_}
 use Prim.Native.Nat.{ℕ}
 use lib.ListN.{drop, getD, replicate}

@@ -1,7 +1,8 @@
 // The library for programs in other languages: one thin function for each call, numbers in and numbers out.
 //
 // A call that answers several values takes a slice for them. It returns the refusal's number, 0 for none, and writes the values to the slice's first
-// places, 0 each where it is refused. A slice that is too short is left as it is, and 255 is returned, which is no refusal's number.
+// places, 0 each where it is refused, but for the area in force that a line leaves. A slice that is too short is left as it is, and 255 is returned,
+// which is no refusal's number.
 use clerk::Clerk;
 use clerk::Reply;
 use curve::FinishAnswer;

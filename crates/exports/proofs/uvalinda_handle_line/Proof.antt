@@ -1,7 +1,6 @@
 -- `exports::uvalinda_handle_line` meets its contract: the clerk's reply and the area behind it, told.
 use borrow.Author.Needs.{needs}
-use mathlib.Core.Path.{sym, ap, _∙_}
-use Rattle.exports.specs.Handling.{handled, handled-by}
+use Rattle.exports.specs.Handling.{handled}
 use Rattle.exports.proofs.Values.{short, answer, handled-as}
 use Rattle.exports.proofs.uvalinda_handle_line.Statement.{statement}
 use Rattle.exports.proofs.uvalinda_handle_line.Tie as tie
