@@ -46,6 +46,20 @@ impl Clerk {
         Clerk { w: 0, h: 0 }
     }
 
+    /// A clerk with this area in force, or with none where the area is not accepted.
+    ///
+    /// ```
+    /// # use uvalinda::{Area, Clerk};
+    /// assert_eq!(Clerk::under(Area { w: 3, h: 4 }).area(), Some(Area { w: 3, h: 4 }));
+    /// assert_eq!(Clerk::under(Area { w: 3, h: 0 }).area(), None);
+    /// ```
+    pub fn under(area: Area) -> Clerk {
+        match area.finish_square() {
+            Ok(_) => Clerk { w: area.w, h: area.h },
+            Err(_) => Clerk::new(),
+        }
+    }
+
     /// The area in force.
     pub fn area(&self) -> Option<Area> {
         (self.w != 0).then_some(Area { w: self.w, h: self.h })
@@ -59,12 +73,13 @@ impl Clerk {
         let returned = unsafe { raw::uvalinda_handle_line(self.w, self.h, line.as_ptr(), line.len(), now.as_mut_ptr(), now.len()) };
         let [w, h, kind, first, second, third] = now;
         *self = Clerk { w, h };
-        let reply = match kind {
+        refusal::unless_refused(returned, ())?;
+        Ok(match kind {
             1 => Reply::Area { area: Area { w, h }, squares: first, finish: Square { x: second, y: third } },
             2 => Reply::Cell(Cell { x: first, y: second, blocks: third }),
-            // A refused line's kind is 0, and its numbers are not looked at.
-            _ => Reply::Number(Number { number: first, blocks: second }),
-        };
-        refusal::unless_refused(returned, reply)
+            3 => Reply::Number(Number { number: first, blocks: second }),
+            // The library's promise has no other kind.
+            _ => unreachable!("the library answered with a reply of kind {kind}"),
+        })
     }
 }

@@ -14,6 +14,11 @@
 #![no_std]
 #![warn(missing_docs)]
 
+// The page's Rust example runs as a test too.
+#[cfg(doctest)]
+#[doc = include_str!("../../../README.md")]
+struct Readme;
+
 mod clerk;
 mod raw;
 mod refusal;
@@ -33,7 +38,7 @@ pub struct Area {
 }
 
 /// A square.
-#[derive(Clone, Copy, Debug, PartialEq, Eq, Hash)]
+#[derive(Clone, Copy, Debug, PartialEq, Eq, PartialOrd, Ord, Hash)]
 pub struct Square {
     /// From 0 to w - 1.
     pub x: u32,
@@ -62,6 +67,7 @@ pub struct Number {
 }
 
 /// What a check found.
+#[must_use]
 #[derive(Clone, Copy, Debug, PartialEq, Eq, Hash)]
 pub enum Check {
     /// Every place holds what it should.
@@ -106,7 +112,8 @@ impl Area {
         refusal::unless_refused(returned, Number { number, blocks })
     }
 
-    /// The finish square. Refused: [`Refusal::AreaLimit`].
+    /// The finish square, (w - 1, 0). It is the square of the last number except where w = 1 and h > 1, or h = 2 and w is odd and over 1.
+    /// Refused: [`Refusal::AreaLimit`].
     ///
     /// ```
     /// # use uvalinda::{Area, Square};
@@ -165,7 +172,7 @@ impl Area {
         let mut judged = [0; 3];
         // SAFETY: the slice and the array are passed with their own lengths.
         let returned = unsafe { raw::uvalinda_check_by_number(self.w, self.h, table.as_ptr(), table.len(), judged.as_mut_ptr(), judged.len()) };
-        refusal::unless_refused(returned, Check::from(judged))
+        refusal::unless_refused(returned, Check::found(judged))
     }
 
     /// Whether a table holds what [`Area::fill_by_square`] writes. Refused: [`Refusal::AreaLimit`], then [`Refusal::TableLength`].
@@ -179,7 +186,7 @@ impl Area {
         let mut judged = [0; 3];
         // SAFETY: the slice and the array are passed with their own lengths.
         let returned = unsafe { raw::uvalinda_check_by_square(self.w, self.h, table.as_ptr(), table.len(), judged.as_mut_ptr(), judged.len()) };
-        refusal::unless_refused(returned, Check::from(judged))
+        refusal::unless_refused(returned, Check::found(judged))
     }
 
     /// The area's squares in the order of their numbers. Refused: [`Refusal::AreaLimit`].
@@ -196,8 +203,9 @@ impl Area {
     }
 }
 
-impl From<[u32; 3]> for Check {
-    fn from(judged: [u32; 3]) -> Check {
+impl Check {
+    // The library's three values: 0 where the table is right, else 1, the place and the value due.
+    fn found(judged: [u32; 3]) -> Check {
         match judged {
             [0, _, _] => Check::Right,
             [_, place, due] => Check::Wrong { place, due },

@@ -1,7 +1,7 @@
 //! The refusals by name and number.
 use core::fmt;
 
-/// Why a call or a line is refused. `as u32` gives the number on the crew card.
+/// Why a call or a line is refused. `u32::from` gives the number that `orders` prints.
 #[derive(Clone, Copy, Debug, PartialEq, Eq, Hash)]
 #[non_exhaustive]
 #[repr(u32)]
@@ -24,6 +24,12 @@ pub enum Refusal {
     LongLine = 8,
     /// Over 64 blocks of the division hold a square. It is proved that this never arises.
     TooDeep = 9,
+}
+
+impl From<Refusal> for u32 {
+    fn from(refusal: Refusal) -> u32 {
+        refusal as u32
+    }
 }
 
 impl fmt::Display for Refusal {

@@ -5,6 +5,7 @@ use core::ops::Range;
 
 /// An iterator over the squares of an area in the order of their numbers, made by [`Area::squares`]. Each square is one lookup, so that skipping
 /// with `nth` or going backwards costs no more than going on.
+#[must_use = "an iterator does nothing unless it is asked"]
 #[derive(Clone, Debug)]
 pub struct Squares {
     area: Area,
@@ -18,8 +19,9 @@ impl Squares {
         Ok(Squares { area, numbers: 0..area.w * area.h })
     }
 
-    fn square(&self, number: u32) -> Option<Square> {
-        self.area.number_to_square(number).ok().map(|cell| Square { x: cell.x, y: cell.y })
+    fn square(&self, number: u32) -> Square {
+        let cell = self.area.number_to_square(number).expect("every number of an accepted area has its square");
+        Square { x: cell.x, y: cell.y }
     }
 }
 
@@ -27,13 +29,19 @@ impl Iterator for Squares {
     type Item = Square;
 
     fn next(&mut self) -> Option<Square> {
-        let number = self.numbers.next()?;
-        self.square(number)
+        self.numbers.next().map(|number| self.square(number))
     }
 
     fn nth(&mut self, n: usize) -> Option<Square> {
-        let number = self.numbers.nth(n)?;
-        self.square(number)
+        self.numbers.nth(n).map(|number| self.square(number))
+    }
+
+    fn count(self) -> usize {
+        self.len()
+    }
+
+    fn last(mut self) -> Option<Square> {
+        self.next_back()
     }
 
     fn size_hint(&self) -> (usize, Option<usize>) {
@@ -43,13 +51,11 @@ impl Iterator for Squares {
 
 impl DoubleEndedIterator for Squares {
     fn next_back(&mut self) -> Option<Square> {
-        let number = self.numbers.next_back()?;
-        self.square(number)
+        self.numbers.next_back().map(|number| self.square(number))
     }
 
     fn nth_back(&mut self, n: usize) -> Option<Square> {
-        let number = self.numbers.nth_back(n)?;
-        self.square(number)
+        self.numbers.nth_back(n).map(|number| self.square(number))
     }
 }
 

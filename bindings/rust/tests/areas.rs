@@ -47,6 +47,17 @@ fn the_iterator_goes_both_ways() {
     assert_eq!(both.len(), 13);
     assert_eq!(both.nth(13), None);
     assert_eq!(both.next(), None);
+    assert_eq!(area.squares().unwrap().last(), onward.last().copied());
+    assert_eq!(area.squares().unwrap().count(), 20);
+}
+
+#[test]
+fn the_finish_square_is_the_last_but_for_two_kinds_of_area() {
+    for area in areas() {
+        let last = area.squares().unwrap().last().unwrap();
+        let elsewhere = area.w == 1 && area.h > 1 || area.h == 2 && area.w % 2 == 1 && area.w > 1;
+        assert_eq!(area.finish_square() == Ok(last), !elsewhere, "{area:?}");
+    }
 }
 
 #[test]
@@ -63,8 +74,8 @@ fn refusals_have_their_numbers() {
         clerk.handle(b"N 7").unwrap_err(),
         clerk.handle(&[b'N'; 65]).unwrap_err(),
     ];
-    assert_eq!(refusals.map(|refusal| refusal as u32), [1, 2, 3, 4, 5, 6, 7, 8]);
-    assert_eq!(Refusal::TooDeep as u32, 9);
+    assert_eq!(refusals.map(u32::from), [1, 2, 3, 4, 5, 6, 7, 8]);
+    assert_eq!(u32::from(Refusal::TooDeep), 9);
 }
 
 #[test]
