@@ -6,7 +6,7 @@ mod random;
 mod raw;
 
 use independent::{Answer, Reply};
-use random::Random;
+use random::{near, Lines, Random};
 
 const UNTOUCHED: u32 = 0xDEAD_BEEF;
 const SHORT: u32 = 255;
@@ -63,10 +63,13 @@ fn fill(w: u32, h: u32, by_square: bool, table: &mut [u32], length: usize) -> (u
     (returned, out)
 }
 
-fn check(w: u32, h: u32, by_square: bool, table: &[u32], length: usize) -> (u32, Vec<u64>) {
+// A check may not alter its table; lent as a mutable slice, a change would be seen.
+fn check(w: u32, h: u32, by_square: bool, table: &mut [u32], length: usize) -> (u32, Vec<u64>) {
+    let before = table.to_vec();
     let mut out = result(length);
     let call = if by_square { raw::uvalinda_check_by_square } else { raw::uvalinda_check_by_number };
-    let returned = unsafe { call(w, h, table.as_ptr(), table.len(), out.as_mut_ptr(), length) };
+    let returned = unsafe { call(w, h, table.as_mut_ptr(), table.len(), out.as_mut_ptr(), length) };
+    assert!(table == before, "a check of {w} by {h}, by square: {by_square}, altered its table");
     told(returned, out)
 }
 
@@ -111,7 +114,7 @@ fn tables(random: &mut Random, w: u32, h: u32, places: usize, length: usize) {
             }
             for kind in [false, true] {
                 let answer = independent::check(wide, high, kind, &table);
-                assert_eq!(check(w, h, kind, &table, length), due(&answer, 3, length), "check of {asked}, changed: {changed}, as by square: {kind}");
+                assert_eq!(check(w, h, kind, &mut table, length), due(&answer, 3, length), "check of {asked}, changed: {changed}, as by square: {kind}");
             }
         }
     }
@@ -142,19 +145,10 @@ fn side(random: &mut Random) -> u32 {
     }
 }
 
-// A number near an end of 0 to n - 1, or anywhere.
-fn near(random: &mut Random, n: u64) -> u32 {
-    match random.below(4) {
-        0 => random.of(&[0, 1, n.wrapping_sub(2), n.wrapping_sub(1), n, n + 1, MOST]).min(MOST) as u32,
-        1 => random.below(MOST + 1) as u32,
-        _ => random.below(n.max(1)).min(MOST) as u32,
-    }
-}
-
 fn lookup(random: &mut Random) {
     let (w, h) = (side(random), side(random));
     let (wide, high) = (w as i64, h as i64);
-    let length = random.below(6) as usize;
+    let length = random.of(&[0, 1, 2, 3, 4, 5, 256]);
     let number = near(random, w as u64 * h as u64);
     let answer = independent::number_to_square(wide, high, number as i64);
     assert_eq!(number_to_square(w, h, number, length), due(&answer, 3, length), "number {number} of {w} by {h} into {length} places");
@@ -165,22 +159,34 @@ fn lookup(random: &mut Random) {
     assert_eq!(finish_square(w, h, length), due(&answer, 2, length), "finish square of {w} by {h} into {length} places");
 }
 
-// Tables of hostile areas; lengths 0, one short, one long and right where the table is not too large to make.
+// Tables of hostile areas; lengths 0, 20, one short, one long and right where the table is not too large to make.
 fn hostile_tables(random: &mut Random) {
     let (w, h) = match random.below(4) {
         0 => (side(random), side(random)),
         _ => (random.below(25) as u32, random.below(25) as u32),
     };
     let squares = w as usize * h as usize;
-    let places = random.of(&[0, squares.saturating_sub(1), squares, squares, squares + 1]);
+    let places = random.of(&[0, 20, squares.saturating_sub(1), squares, squares, squares + 1]);
     let length = random.below(5) as usize;
     tables(random, w, h, if places > 5_000 { 7 } else { places }, length);
 }
 
+// A line with a newline in it, or far too long: the library takes any bytes for one line.
+fn stretched(random: &mut Random, mut line: Vec<u8>) -> Vec<u8> {
+    match random.below(40) {
+        0 => line.insert(random.below(line.len() as u64 + 1) as usize, b'\n'),
+        1 => line.resize(random.of(&[63, 64, 65, 66, 255, 256, 257, 320, 65_536, 70_000]), b'7'),
+        _ => {}
+    }
+    line
+}
+
 // A random line under the area that the last one left, or under any numbers at all. The area in force after it is handed on.
-fn line(random: &mut Random, (w, h): (u32, u32)) -> (u32, u32) {
-    let (w, h) = if random.below(8) == 0 { (side(random), side(random)) } else { (w, h) };
-    let line = random::line(random);
+fn line(lines: &mut Lines, (w, h): (u32, u32)) -> (u32, u32) {
+    let line = lines.next();
+    let random = &mut lines.random;
+    let line = stretched(random, line);
+    let (w, h) = if random.below(30) == 0 { (side(random), side(random)) } else { (w, h) };
     let (wide, high) = (w as i64, h as i64);
     let (reply, area) = independent::answered(&line, independent::accepted(wide, high).then_some((wide, high)));
     let after = area.unwrap_or((0, 0));
@@ -190,7 +196,7 @@ fn line(random: &mut Random, (w, h): (u32, u32)) -> (u32, u32) {
         Reply::Number { number, blocks } => (0, [after.0, after.1, 3, number, blocks, 0]),
         Reply::Refused(refusal) => (refusal as u32, [after.0, after.1, 0, 0, 0, 0]),
     };
-    let text = String::from_utf8_lossy(&line);
+    let text = String::from_utf8_lossy(&line[..line.len().min(80)]);
     let length = if random.below(4) == 0 { random.below(9) as usize } else { 8 };
     let mut left = vec![UNTOUCHED as u64; length];
     if length < 6 {
@@ -204,11 +210,22 @@ fn line(random: &mut Random, (w, h): (u32, u32)) -> (u32, u32) {
     (after.0 as u32, after.1 as u32)
 }
 
+// Lengths are compared whole: a table of 2^32 + 12 places is not one of 12. No such table is made, since none of its places is looked at.
+fn long_lengths() {
+    let places = (1usize << 32) + 12;
+    let mut table = [UNTOUCHED; 12];
+    let (mut blocks, mut judged) = ([7], [7; 3]);
+    let fill = unsafe { raw::uvalinda_fill_by_number(3, 4, table.as_mut_ptr(), places, blocks.as_mut_ptr(), 1) };
+    let check = unsafe { raw::uvalinda_check_by_number(3, 4, table.as_ptr(), places, judged.as_mut_ptr(), 3) };
+    assert_eq!((fill, blocks, check, judged, table), (4, [0], 4, [0; 3], [UNTOUCHED; 12]));
+}
+
 fn main() {
     let seed = std::env::args().nth(1).map_or(1, |word| word.parse().expect("a seed"));
     println!("boundary: seed {seed}");
     let mut random = Random::from(seed);
     worked_cases();
+    long_lengths();
     for w in 1..=40 {
         for h in 1..=40 {
             whole_area(w, h);
@@ -222,15 +239,19 @@ fn main() {
     for (w, h) in [(65535, 1), (1, 65535), (65535, 2), (3, 65535), (300, 200), (181, 359), (512, 512)] {
         tables(&mut random, w, h, w as usize * h as usize, 4);
     }
+    for (w, h, places) in [(65536, 1, 65536), (1, 65536, 65536), (200, 200, 39_999), (200, 200, 40_001), (65535, 1, 65_534), (65535, 1, 65_536)] {
+        tables(&mut random, w, h, places, 4);
+    }
     for _ in 0..300_000 {
         lookup(&mut random);
     }
     for _ in 0..20_000 {
         hostile_tables(&mut random);
     }
+    let mut lines = Lines::from(seed);
     let mut area = (0, 0);
     for _ in 0..300_000 {
-        area = line(&mut random, area);
+        area = line(&mut lines, area);
     }
     println!("boundary: 900000 random lookups, 200000 calls on tables and 300000 lines, as the independent program has them");
 }

@@ -1,6 +1,6 @@
 /*
- * The header as a C program and as a C++ program see it: every function called once answered and once refused, with document 01's worked
- * cases, and with nothing where nothing is asked.
+ * The header as a C program and as a C++ program see it: every function answered, refused and with a result that is one place too short, with
+ * document 01's worked cases; every constant by what a call returns or by its value.
  */
 #include "uvalinda.h"
 
@@ -26,16 +26,22 @@ static void lookups(void) {
     EXPECT(found[0] == 0 && found[1] == 0 && found[2] == 0);
     EXPECT(uvalinda_number_to_square(65536, 1, 0, found, UVALINDA_SQUARE_PLACES) == UVALINDA_AREA_LIMIT);
     EXPECT(uvalinda_number_to_square(3, 4, 8, NULL, 0) == UVALINDA_SHORT_RESULT);
+    EXPECT(uvalinda_number_to_square(3, 4, 8, found, UVALINDA_SQUARE_PLACES - 1) == UVALINDA_SHORT_RESULT);
     EXPECT(uvalinda_square_to_number(4, 3, 2, 1, found, UVALINDA_NUMBER_PLACES) == UVALINDA_ANSWERED);
     EXPECT(found[0] == 9 && found[1] == 3);
     EXPECT(uvalinda_square_to_number(4, 3, 4, 0, found, UVALINDA_NUMBER_PLACES) == UVALINDA_SQUARE_OUTSIDE);
+    EXPECT(uvalinda_square_to_number(4, 3, 2, 1, found, UVALINDA_NUMBER_PLACES - 1) == UVALINDA_SHORT_RESULT);
     EXPECT(uvalinda_finish_square(65535, 65535, found, UVALINDA_FINISH_PLACES) == UVALINDA_ANSWERED);
     EXPECT(found[0] == 65534 && found[1] == 0);
-    EXPECT(uvalinda_finish_square(0, 5, NULL, 0) == UVALINDA_SHORT_RESULT);
+    EXPECT(uvalinda_finish_square(0, 5, found, UVALINDA_FINISH_PLACES) == UVALINDA_AREA_LIMIT);
+    EXPECT(found[0] == 0 && found[1] == 0);
+    EXPECT(uvalinda_finish_square(0, 5, found, UVALINDA_FINISH_PLACES - 1) == UVALINDA_SHORT_RESULT);
+    EXPECT(UVALINDA_TOO_DEEP == 9);
 }
 
 static void tables(void) {
     static const uint32_t due[12] = {0, 3, 6, 9, 10, 11, 8, 7, 5, 4, 1, 2};
+    static const uint32_t by_square[12] = {0, 10, 11, 1, 9, 8, 2, 7, 6, 3, 4, 5};
     uint32_t table[12], judged[UVALINDA_CHECK_PLACES];
     uint64_t blocks[UVALINDA_FILL_PLACES];
     EXPECT(uvalinda_fill_by_number(3, 4, table, 12, blocks, UVALINDA_FILL_PLACES) == UVALINDA_ANSWERED);
@@ -49,6 +55,15 @@ static void tables(void) {
     EXPECT(uvalinda_fill_by_square(3, 4, table, 12, NULL, 0) == UVALINDA_SHORT_RESULT);
     EXPECT(memcmp(table, due, sizeof due) == 0);
     EXPECT(uvalinda_fill_by_square(3, 4, NULL, 0, blocks, UVALINDA_FILL_PLACES) == UVALINDA_TABLE_LENGTH);
+    EXPECT(uvalinda_fill_by_number(65536, 1, table, 12, blocks, UVALINDA_FILL_PLACES) == UVALINDA_AREA_LIMIT);
+    EXPECT(uvalinda_fill_by_number(3, 4, table, 12, blocks, UVALINDA_FILL_PLACES - 1) == UVALINDA_SHORT_RESULT);
+    EXPECT(uvalinda_check_by_number(3, 4, table, 11, judged, UVALINDA_CHECK_PLACES) == UVALINDA_TABLE_LENGTH);
+    EXPECT(uvalinda_check_by_square(0, 4, table, 12, judged, UVALINDA_CHECK_PLACES) == UVALINDA_AREA_LIMIT);
+    EXPECT(uvalinda_check_by_number(3, 4, table, 12, judged, UVALINDA_CHECK_PLACES - 1) == UVALINDA_SHORT_RESULT);
+    EXPECT(uvalinda_check_by_square(3, 4, table, 12, judged, UVALINDA_CHECK_PLACES - 1) == UVALINDA_SHORT_RESULT);
+    EXPECT(uvalinda_fill_by_square(3, 4, table, 12, blocks, UVALINDA_FILL_PLACES) == UVALINDA_ANSWERED);
+    EXPECT(blocks[0] == 10 && memcmp(table, by_square, sizeof by_square) == 0);
+    EXPECT(uvalinda_check_by_square(3, 4, table, 12, judged, UVALINDA_CHECK_PLACES) == UVALINDA_ANSWERED && judged[0] == 0);
 }
 
 /* One line of an order form, under the area that the line before it left. */
@@ -72,6 +87,7 @@ static void lines(void) {
     EXPECT(handle("AREA 0 4", now) == UVALINDA_AREA_LIMIT);
     EXPECT(now[0] == 0 && now[1] == 0);
     EXPECT(uvalinda_handle_line(3, 4, NULL, 0, now, UVALINDA_LINE_PLACES) == UVALINDA_WRONG_SHAPE);
+    EXPECT(uvalinda_handle_line(3, 4, NULL, 0, now, UVALINDA_LINE_PLACES - 1) == UVALINDA_SHORT_RESULT);
 }
 
 int main(void) {

@@ -19,6 +19,16 @@ impl Random {
     }
 }
 
+// A number near an end of 0 to n - 1, or anywhere in a 32-bit number's range.
+pub fn near(random: &mut Random, n: u64) -> u32 {
+    let most = u32::MAX as u64;
+    match random.below(4) {
+        0 => random.of(&[0, 1, n.wrapping_sub(2), n.wrapping_sub(1), n, n + 1, most]).min(most) as u32,
+        1 => random.below(most + 1) as u32,
+        _ => random.below(n.max(1)).min(most) as u32,
+    }
+}
+
 // A field that is a number, or nearly one.
 fn field(random: &mut Random) -> Vec<u8> {
     let odd: [&[u8]; 12] = [b"", b"07", b"3E4", b"+7", b"-1", b"7.0", b"4294967295", b"4294967296", b"99999999999", b"0", b"65535", b"65536"];
@@ -30,14 +40,11 @@ fn field(random: &mut Random) -> Vec<u8> {
     }
 }
 
-// A line, most of the time nearly right.
-pub fn line(random: &mut Random) -> Vec<u8> {
+// A line that is nearly right, and seldom quite.
+fn odd_line(random: &mut Random) -> Vec<u8> {
     let words: [&[u8]; 12] = [b"AREA", b"AREA", b"N", b"N", b"N", b"S", b"S", b"S", b"AREAX", b"n", b"", b"ORIGIN"];
     let mut line = random.of(&words).to_vec();
-    let fields = match line[..] {
-        [b'N'] => 1,
-        _ => 2,
-    };
+    let fields = if line == b"N" { 1 } else { 2 };
     for _ in 0..if random.below(10) == 0 { random.below(5) } else { fields } {
         line.extend_from_slice(if random.below(20) == 0 { random.of(&[b"  ", b"\t", b""]) } else { b" " });
         line.extend(field(random));
@@ -48,4 +55,37 @@ pub fn line(random: &mut Random) -> Vec<u8> {
         _ => {}
     }
     line
+}
+
+// Random order lines, of which most are answered: they know roughly which area is in force.
+pub struct Lines {
+    pub random: Random,
+    area: Option<(u32, u32)>,
+}
+
+impl Lines {
+    pub fn from(seed: u64) -> Lines {
+        Lines { random: Random::from(seed), area: None }
+    }
+
+    pub fn next(&mut self) -> Vec<u8> {
+        let random = &mut self.random;
+        match (random.below(10), self.area) {
+            (0 | 1, _) => {
+                let line = odd_line(random);
+                if line.starts_with(b"AREA") {
+                    self.area = None;
+                }
+                line
+            }
+            (2..=5, Some((w, h))) => format!("N {}", near(random, w as u64 * h as u64)).into_bytes(),
+            (6..=8, Some((w, h))) => format!("S {} {}", near(random, w as u64), near(random, h as u64)).into_bytes(),
+            _ => {
+                let limit = random.of(&[10, 300, 65535]);
+                let (w, h) = (1 + random.below(limit) as u32, 1 + random.below(limit) as u32);
+                self.area = Some((w, h));
+                format!("AREA {w} {h}").into_bytes()
+            }
+        }
+    }
 }

@@ -1,0 +1,87 @@
+// trace: every name in the tables of docs/TRACE.md exists: a file, a crate, a function or type of the code or the tests, a definition or theorem, or a
+// must-fail edit. A name that is followed by a file in brackets, alone or as the last of several, stands in that file.
+use std::fs;
+use std::path::{Path, PathBuf};
+
+fn files_under(folder: &Path, all: &mut Vec<PathBuf>) {
+    for entry in fs::read_dir(folder).expect("the folder can be read") {
+        let path = entry.expect("an entry").path();
+        match path.is_dir() {
+            true => files_under(&path, all),
+            false => all.push(path),
+        }
+    }
+}
+
+// Whether a source declares the name: `fn name`, `struct name`, `enum name` in code, `name :` or `name` and its arguments at a line's start in antt.
+fn declares(path: &Path, name: &str) -> bool {
+    let Ok(text) = fs::read_to_string(path) else { return false };
+    let name = name.rsplit("::").next().unwrap();
+    let code = matches!(path.extension().and_then(|e| e.to_str()), Some("rt" | "rs"));
+    let ends = |rest: &str| !rest.starts_with(|c: char| c.is_alphanumeric() || c == '_' || c == '-');
+    text.lines().any(|line| {
+        let mut words = line.trim_start();
+        let prefixes: &[&str] = if code { &["pub ", "extern \"C\" "] } else { &["abbrev ", "unfoldable ", "pub ", "data ", "record "] };
+        while let Some(rest) = prefixes.iter().find_map(|prefix| words.strip_prefix(prefix)) {
+            words = rest;
+        }
+        if !code {
+            return words.strip_prefix(name).is_some_and(ends);
+        }
+        ["fn ", "struct ", "enum "].iter().any(|kind| words.strip_prefix(kind).and_then(|rest| rest.strip_prefix(name)).is_some_and(ends))
+    })
+}
+
+// A file of the product by the name that the page gives it.
+fn file(name: &str) -> Option<PathBuf> {
+    [format!("crates/{name}"), name.to_string()].into_iter().map(PathBuf::from).find(|path| name.contains('/') && path.exists())
+}
+
+fn exists(name: &str, sources: &[PathBuf]) -> bool {
+    let edit = format!("{name}.edit");
+    file(name).is_some()
+        || Path::new("crates").join(name).is_dir()
+        || sources.iter().any(|path| path.file_name().is_some_and(|f| f.to_str() == Some(&edit)) || declares(path, name))
+}
+
+fn main() {
+    let mut sources = Vec::new();
+    for folder in ["crates", "tests"] {
+        files_under(Path::new(folder), &mut sources);
+    }
+    let page = fs::read_to_string("docs/TRACE.md").expect("the page can be read");
+    let (mut count, mut missing) = (0, 0);
+    let mut miss = |what: String| {
+        println!("docs/TRACE.md: {what}");
+        missing += 1;
+    };
+    for row in page.lines().filter(|line| line.starts_with('|')) {
+        let met_by = row.splitn(3, '|').nth(2).unwrap_or("");
+        // Odd pieces stand between backticks. Names wait for the file that may follow them.
+        let pieces: Vec<&str> = met_by.split('`').collect();
+        let mut waiting: Vec<&str> = Vec::new();
+        for i in (1..pieces.len()).step_by(2) {
+            let name = pieces[i];
+            count += 1;
+            if !exists(name, &sources) {
+                miss(format!("there is no {name}"));
+            }
+            match (pieces[i - 1].ends_with('('), file(name)) {
+                (true, Some(path)) if path.is_file() => {
+                    for waits in waiting.drain(..).filter(|waits| !declares(&path, waits)) {
+                        miss(format!("{waits} is not in {name}"));
+                    }
+                }
+                _ => {
+                    if !matches!(pieces[i - 1].trim(), "," | "and" | "(") {
+                        waiting.clear();
+                    }
+                    waiting.push(name);
+                }
+            }
+        }
+    }
+    assert!(count > 0, "docs/TRACE.md names nothing");
+    assert!(missing == 0, "{missing} of {count} names are wrong");
+    println!("trace: {count} names, and all of them exist where the page says");
+}
