@@ -11,7 +11,7 @@
  * written. Where there are fewer places than values, the call writes nothing, fills nothing and returns UVALINDA_SHORT_RESULT.
  *
  * Who owns what: every pointer is lent for the time of the call. The library keeps nothing, allocates nothing and has no state, so calls from
- * several threads do not disturb each other. A pointer is followed by its length, in places (in bytes, for a line), and may be null where that
+ * several threads do not disturb each other; a fill or a check of the largest area takes under 8 KB of stack on x86-64. A pointer is followed by its length, in places (in bytes, for a line), and may be null where that
  * length is 0. What the caller has to see to, since C cannot: a pointer has as many places as its length says, and what is written to overlaps
  * nothing else that the same call was lent.
  *
@@ -75,7 +75,8 @@ uint32_t uvalinda_number_to_square(uint32_t w, uint32_t h, uint32_t number, uint
 uint32_t uvalinda_square_to_number(uint32_t w, uint32_t h, uint32_t x, uint32_t y, uint32_t *result, size_t result_length);
 
 /*
- * The finish square of an area. Values: x, y.
+ * The finish square of an area, (w - 1, 0). Values: x, y. It is the square of the last number except where w = 1 and h > 1, or h = 2 and w is
+ * odd and over 1.
  * Refusal: AREA_LIMIT.
  */
 uint32_t uvalinda_finish_square(uint32_t w, uint32_t h, uint32_t *result, size_t result_length);
