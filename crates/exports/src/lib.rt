@@ -21,6 +21,9 @@ ghost use Rattle.tables.specs.Tables.{by-number, by-square, fill, fill-figures,
 ghost use Rattle.exports.specs.Boundary.{returned, written, filled};
 ghost use Rattle.exports.specs.Handling.{area-of, handled-figures, handled};
 
+// What a call returns where its slice is too short.
+const SHORT: u32 = 255;
+
 // The first two, or three, places of a slice.
 fn put_two(result: &mut [u32], x: u32, y: u32)
     requires { ⌜ 2 ≤ length (now result) ⌝ }
@@ -46,7 +49,7 @@ pub extern "C" fn uvalinda_number_to_square(w: u32, h: u32, number: u32, result:
         × (now (result .exit) ≡ written 3 (number-to-square w h number) (now (result .entry))) ⌝ }
 {
     if result.len() < 3 {
-        return 255;
+        return SHORT;
     }
     let answer = curve::number_to_square(Area { w: w, h: h }, number);
     match answer {
@@ -74,7 +77,7 @@ pub extern "C" fn uvalinda_square_to_number(
         × (now (result .exit) ≡ written 2 (square-to-number w h x y) (now (result .entry))) ⌝ }
 {
     if result.len() < 2 {
-        return 255;
+        return SHORT;
     }
     let answer = curve::square_to_number(Area { w: w, h: h }, x, y);
     match answer {
@@ -96,7 +99,7 @@ pub extern "C" fn uvalinda_finish_square(w: u32, h: u32, result: &mut [u32]) -> 
         × (now (result .exit) ≡ written 2 (finish-square w h) (now (result .entry))) ⌝ }
 {
     if result.len() < 2 {
-        return 255;
+        return SHORT;
     }
     let answer = curve::finish_square(Area { w: w, h: h });
     match answer {
@@ -141,7 +144,7 @@ pub extern "C" fn uvalinda_fill_by_number(
         × (now (table .exit) ≡ filled (fill w h (now (table .entry))) (by-number w h) (now (table .entry)) (now (blocks .entry))) ⌝ }
 {
     if blocks.len() < 1 {
-        return 255;
+        return SHORT;
     }
     let answer = tables::fill_by_number(Area { w: w, h: h }, table);
     tell_fill(answer, blocks)
@@ -160,7 +163,7 @@ pub extern "C" fn uvalinda_fill_by_square(
         × (now (table .exit) ≡ filled (fill w h (now (table .entry))) (by-square w h) (now (table .entry)) (now (blocks .entry))) ⌝ }
 {
     if blocks.len() < 1 {
-        return 255;
+        return SHORT;
     }
     let answer = tables::fill_by_square(Area { w: w, h: h }, table);
     tell_fill(answer, blocks)
@@ -194,7 +197,7 @@ pub extern "C" fn uvalinda_check_by_number(w: u32, h: u32, table: &[u32], result
         × (now (result .exit) ≡ written 3 (check w h (by-number w h) (now (table .entry))) (now (result .entry))) ⌝ }
 {
     if result.len() < 3 {
-        return 255;
+        return SHORT;
     }
     let answer = tables::check_by_number(Area { w: w, h: h }, table);
     tell_check(answer, result)
@@ -207,7 +210,7 @@ pub extern "C" fn uvalinda_check_by_square(w: u32, h: u32, table: &[u32], result
         × (now (result .exit) ≡ written 3 (check w h (by-square w h) (now (table .entry))) (now (result .entry))) ⌝ }
 {
     if result.len() < 3 {
-        return 255;
+        return SHORT;
     }
     let answer = tables::check_by_square(Area { w: w, h: h }, table);
     tell_check(answer, result)
@@ -243,8 +246,8 @@ fn tell_reply(area: Area, reply: Reply, result: &mut [u32]) -> u32
 {
     match reply {
         Reply::AreaSet {
-            w,
-            h,
+            w: _,
+            h: _,
             squares,
             x,
             y,
@@ -274,7 +277,7 @@ pub extern "C" fn uvalinda_handle_line(w: u32, h: u32, line: &[u8], result: &mut
         × (now (result .exit) ≡ written 6 (handled w h (now (line .entry))) (now (result .entry))) ⌝ }
 {
     if result.len() < 6 {
-        return 255;
+        return SHORT;
     }
     let clerk = clerk::clerk_under(Area { w: w, h: h });
     let handled = clerk.handle(line);

@@ -10,6 +10,20 @@ ghost use Rattle.lines.specs.declared.Request.the-variants.{SetArea, Ask
 ghost use Rattle.lines.specs.Lines.{all-digits, well-begun, value, numeral, same-bytes, AREA, of-one, of-two, two-fields, three-fields, request};
 ghost use Rattle.lines.specs.Reading.{field-at, piece, made-of-three, three-read};
 
+// How many bytes a line may have.
+const MOST_BYTES: usize = 64;
+
+// How many digits a number may have, and the largest number.
+const MOST_DIGITS: usize = 10;
+
+const LARGEST: u64 = 4294967295;
+
+// What stands for a value that is no number's.
+const OVER: u64 = 4294967296;
+
+// A place that no line has.
+const NOWHERE: usize = 18446744073709551615;
+
 // What a line asks.
 pub enum Request {
     SetArea { w: u32, h: u32 },
@@ -31,7 +45,7 @@ fn end_of(line: &[u8], at: usize) -> usize
 {
     let mut end = at;
     while end < line.len() {
-        if line[end] == 32 {
+        if line[end] == b' ' {
             return end;
         }
         end = end + 1;
@@ -54,7 +68,7 @@ fn field_at(line: &[u8], at: usize) -> Field
     Field {
         start: at,
         end: end,
-        next: 18446744073709551615,
+        next: NOWHERE,
     }
 }
 
@@ -117,13 +131,13 @@ fn digits_value(s: &[u8]) -> u64
     let mut v: u64 = 0;
     for i in 0..s.len() {
         let b = s[i];
-        if b < 48 {
-            return 4294967296;
+        if b < b'0' {
+            return OVER;
         }
-        if 57 < b {
-            return 4294967296;
+        if b'9' < b {
+            return OVER;
         }
-        v = v * 10 + (b - 48) as u64;
+        v = v * 10 + (b - b'0') as u64;
     }
     v
 }
@@ -138,7 +152,7 @@ fn begins_well(s: &[u8]) -> bool
     if s.len() < 2 {
         return true;
     }
-    s[0] != 48
+    s[0] != b'0'
 }
 
 // A field's number: 1 to 10 digits, no needless 0 before them, at most 4,294,967,295.
@@ -148,11 +162,11 @@ fn number(s: &[u8]) -> Numeral
     if !begins_well(s) {
         return Numeral::NoNumber;
     }
-    if 10 < s.len() {
+    if MOST_DIGITS < s.len() {
         return Numeral::NoNumber;
     }
     let v = digits_value(s);
-    if 4294967295 < v {
+    if LARGEST < v {
         return Numeral::NoNumber;
     }
     Numeral::Value(v as u32)
@@ -175,16 +189,16 @@ pub fn is_area(s: &[u8]) -> bool
     if s.len() != 4 {
         return false;
     }
-    if s[0] != 65 {
+    if s[0] != b'A' {
         return false;
     }
-    if s[1] != 82 {
+    if s[1] != b'R' {
         return false;
     }
-    if s[2] != 69 {
+    if s[2] != b'E' {
         return false;
     }
-    s[3] == 65
+    s[3] == b'A'
 }
 
 // What a line asks with one number behind its word.
@@ -228,7 +242,7 @@ fn with_two(a: &[u8], b: &[u8], area: bool) -> Request
 fn two_fields(word: &[u8], a: &[u8]) -> Request
     ensures { λ r. ⌜ r ≡ two-fields (now (word .entry)) (now (a .entry)) ⌝ }
 {
-    if is_letter(word, 78) {
+    if is_letter(word, b'N') {
         return with_one(a);
     }
     Request::Refused(Refusal::WrongShape)
@@ -241,7 +255,7 @@ fn three_fields(word: &[u8], a: &[u8], b: &[u8]) -> Request
     if is_area(word) {
         return with_two(a, b, true);
     }
-    if is_letter(word, 83) {
+    if is_letter(word, b'S') {
         return with_two(a, b, false);
     }
     Request::Refused(Refusal::WrongShape)
@@ -277,7 +291,7 @@ fn read(line: &[u8]) -> Request
 pub fn request_of(line: &[u8]) -> Request
     ensures { λ r. ⌜ r ≡ request (now (line .entry)) ⌝ }
 {
-    if 64 < line.len() {
+    if MOST_BYTES < line.len() {
         return Request::Refused(Refusal::LongLine);
     }
     read(line)
