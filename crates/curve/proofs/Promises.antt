@@ -97,11 +97,13 @@ square-back w h x y n k e =
     ∙ ap (λ b. answered (x ∷ y ∷ b ∷ [])) (sym (ap (value 1) is))
 
 -- The count of an answered lookup is the division's own, and meets demand 3.
+pub square-count-is : (w h x y n k : ℕ) → square-to-number w h x y ≡ answered (n ∷ k ∷ []) → k ≡ blocks-holding (whole w h) (square x y)
+square-count-is w h x y n k e =
+    let was = square-asked w h x y (n ∷ k ∷ []) e in
+    ap (value 1) (sym e ∙ square-answered w h (was .0) x y (was .1) (was .2))
+
 pub count-is : (w h n x y k : ℕ) → number-to-square w h n ≡ answered (x ∷ y ∷ k ∷ []) → k ≡ blocks-holding (whole w h) (square x y)
-count-is w h n x y k e =
-    let back = number-back w h n x y k e in
-    let was = square-asked w h x y (n ∷ k ∷ []) back in
-    ap (value 1) (sym back ∙ square-answered w h (was .0) x y (was .1) (was .2))
+count-is w h n x y k e = square-count-is w h x y n k (number-back w h n x y k e)
 
 pub count-bound : (w h n x y k : ℕ) → number-to-square w h n ≡ answered (x ∷ y ∷ k ∷ []) → 1 < k → 3 ^ k ≤ 2 ^ k * (w * h)
 count-bound w h n x y k e l =
@@ -109,6 +111,9 @@ count-bound w h n x y k e l =
     let all = limits w h (was .0) in
     let is = count-is w h n x y k e in
     subst⁻¹ (λ (m : ℕ). 3 ^ m ≤ 2 ^ m * (w * h)) is (demand-3 w h (all .w-least) (all .h-least) (square x y) (subst (λ (m : ℕ). 1 < m) is l))
+
+pub square-count-bound : (w h x y n k : ℕ) → square-to-number w h x y ≡ answered (n ∷ k ∷ []) → 1 < k → 3 ^ k ≤ 2 ^ k * (w * h)
+square-count-bound w h x y n k e l = count-bound w h n x y k (square-back w h x y n k e) l
 
 -- Two answers that meet a promise are one.
 pub square-one : (r s : SquareAnswers.SquareAnswer) → square-figures r ≡ square-figures s → r ≡ s
@@ -139,6 +144,17 @@ four-squares : accepted 2 2 ≡ true
 unfolding accepted
 four-squares = refl
 
+-- each square of a 2 by 2 area is held by a part too
+not-alone : (x y n : ℕ) → square-to-number 2 2 x y ≡ answered (n ∷ 1 ∷ []) → ⊥
+unfolding whole choice parts-of
+not-alone x y n e =
+    let is = square-count-is 2 2 x y n 1 e in
+    let was = square-asked 2 2 x y (n ∷ 1 ∷ []) e in
+    let inside = whole-inside 2 2 (lit≤ tt) (lit≤ tt) in
+    let held = whole-holds 2 2 (square x y) (record { run = was .1; side = was .2 }) in
+    let more = cut-holding 2 2 (whole 2 2) inside (in-three (lit≤ tt) (lit≤ tt) (parts-are (whole 2 2) UCut refl)) (square x y) held in
+    omega arith
+
 -- one that refuses everything
 module _ (f : ℕ → ℕ → ℕ → SquareAnswers.SquareAnswer) (promise : (w h n : ℕ) → square-figures (f w h n) ≡ number-to-square w h n) where
   pub refuses-everything : ((w h n : ℕ) → (r : Refusal) × (f w h n ≡ SquareAnswers.the-variants.Refused r)) → ⊥
@@ -158,19 +174,12 @@ module _ (f : ℕ → ℕ → ℕ → SquareAnswers.SquareAnswer) (promise : (w 
 
   -- one whose count is made up: 1 for every square is within demand 3's bound, and is not the division's own count
   pub made-up-count : ((w h n : ℕ) → accepted w h ≡ true → n < w * h → (x : ℕ) × (y : ℕ) × (f w h n ≡ SquareAnswers.the-variants.Found x y 1)) → ⊥
-  unfolding whole choice parts-of
   made-up-count all =
       let a = all 2 2 0 four-squares (lit< tt) in
-      let given = sym (promise 2 2 0) ∙ ap square-figures (a .2) in
-      let is = count-is 2 2 0 (a .0) (a .1) 1 given in
-      let was = square-asked 2 2 (a .0) (a .1) (0 ∷ 1 ∷ []) (number-back 2 2 0 (a .0) (a .1) 1 given) in
-      let inside = whole-inside 2 2 (lit≤ tt) (lit≤ tt) in
-      let held = whole-holds 2 2 (square (a .0) (a .1)) (record { run = was .1; side = was .2 }) in
-      let more = cut-holding 2 2 (whole 2 2) inside (in-three (lit≤ tt) (lit≤ tt) (parts-are (whole 2 2) UCut refl)) (square (a .0) (a .1)) held in
-      omega arith
+      not-alone (a .0) (a .1) 0 (number-back 2 2 0 (a .0) (a .1) 1 (sym (promise 2 2 0) ∙ ap square-figures (a .2)))
 
 module _ (g : ℕ → ℕ → ℕ → ℕ → NumberAnswers.NumberAnswer) (promise : (w h x y : ℕ) → number-figures (g w h x y) ≡ square-to-number w h x y) where
-  -- one that refuses every square, and one that gives a constant number
+  -- one that refuses every square, one that gives a constant number, and one whose count is made up
   pub refuses-every-square : ((w h x y : ℕ) → (r : Refusal) × (g w h x y ≡ NumberAnswers.the-variants.Refused r)) → ⊥
   refuses-every-square all =
       let given = all 2 1 0 0 in
@@ -184,3 +193,8 @@ module _ (g : ℕ → ℕ → ℕ → ℕ → NumberAnswers.NumberAnswer) (promi
       let first = square-back 2 1 0 0 n (a .0) (sym (promise 2 1 0 0) ∙ ap number-figures (a .1)) in
       let second = square-back 2 1 1 0 n (b .0) (sym (promise 2 1 1 0) ∙ ap number-figures (b .1)) in
       omega (arith, ap (value 0) (sym first ∙ second))
+
+  pub made-up-square-count : ((w h x y : ℕ) → accepted w h ≡ true → x < w → y < h → (n : ℕ) × (g w h x y ≡ NumberAnswers.the-variants.Found n 1)) → ⊥
+  made-up-square-count all =
+      let a = all 2 2 0 0 four-squares (lit< tt) (lit< tt) in
+      not-alone 0 0 (a .0) (sym (promise 2 2 0 0) ∙ ap number-figures (a .1))
