@@ -5,7 +5,7 @@ use mathlib.Core.List.{List, [], _∷_}
 use mathlib.Core.Path.{_≡_, refl, sym, ap, ap₂, _∙_}
 use Prim.Native.Nat.{ℕ, suc, _+_, _-_, _*_, _/_, _%_, _≤_, _<_}
 use native.Mathlib.Omega.{arith}
-use borrow.Author.Tests.{eqb-true}
+use borrow.Author.Tests.{eqb-true, eqb-false}
 use lib.Dec.{eqb, lit≤, lit<}
 use lib.ListN.{length, getD}
 use Rattle.division.specs.Division.Small.{blocks-two}
@@ -16,7 +16,7 @@ use Rattle.division.proofs.Blocks.{whole-inside, few-blocks}
 use Rattle.tables.specs.declared.FillAnswer as FillAnswers
 use Rattle.tables.specs.declared.CheckAnswer as CheckAnswers
 use Rattle.tables.specs.Tables.{by-number, by-square, due-by, judged, unless-refused, fill, check, fill-figures, check-figures}
-use Rattle.tables.proofs.Whole.{taken, given}
+use Rattle.tables.proofs.Whole.{area-refused, length-refused, taken, given}
 use Rattle.tables.proofs.Judged.{judged-right}
 use Rattle.tables.proofs.Listed.{place-holds, values-below, due-there, looked-for, looked-below, looked-at, due-length}
 
@@ -72,15 +72,27 @@ module _ (w h : ℕ) (yes : accepted w h ≡ true) (kind : Bool) (t : List ℕ) 
   pub filled-then-right : t ≡ due → check w h due t ≡ answered (0 ∷ 0 ∷ 0 ∷ [])
   filled-then-right e = judged-is ∙ ap answered (judged-right 0 due t (size ∙ sym long) (λ i l. ap (λ zs. getD zs i 0) e))
 
--- Demand 3: a fill's count is the division's own, by its promise, and at most 2 · squares - 1.
-pub few-reported : (w h : ℕ) → 1 ≤ w → 1 ≤ h → length (blocks (whole w h)) ≤ 2 * (w * h) - 1
-unfolding whole
-few-reported w h a b = let few = few-blocks (whole w h) (whole-inside w h a b .sized) in omega arith
-
--- Two answers that meet a promise are one.
+-- the i-th value of some figures
 abbrev value : ℕ → Figures → ℕ
 value i f = getD (f .values) i 0
 
+-- Demand 3: a fill's count is the division's own, by its promise, and at most 2 · squares - 1.
+few-by : (w h : ℕ) (t : List ℕ) (n : ℕ) (a b : Bool) → accepted w h ≡ a → eqb (length t) (w * h) ≡ b → fill w h t ≡ answered (n ∷ []) → n ≤ 2 * (w * h) - 1
+unfolding fill whole
+few-by w h t n true true p q e =
+    let all = limits w h p in
+    let is = ap (value 0) (sym e ∙ taken w h t 1 (answered (length (blocks (whole w h)) ∷ [])) p (eqb-true (length t) (w * h) q)) in
+    let few = few-blocks (whole w h) (whole-inside w h (all .w-least) (all .h-least) .sized) in
+    omega arith
+few-by w h t n true false p q e =
+    absurd (omega (arith, ap (λ f. f .refusal) (length-refused w h t 1 (answered (length (blocks (whole w h)) ∷ [])) p (eqb-false (length t) (w * h) q) ∙ e)))
+few-by w h t n false b p q e =
+    absurd (omega (arith, ap (λ f. f .refusal) (area-refused w h t 1 (answered (length (blocks (whole w h)) ∷ [])) p ∙ e)))
+
+pub few-reported : (w h : ℕ) (t : List ℕ) (n : ℕ) → fill w h t ≡ answered (n ∷ []) → n ≤ 2 * (w * h) - 1
+few-reported w h t n e = few-by w h t n (accepted w h) (eqb (length t) (w * h)) refl refl e
+
+-- Two answers that meet a promise are one.
 pub fill-one : (r s : FillAnswers.FillAnswer) → fill-figures r ≡ fill-figures s → r ≡ s
 fill-one (FillAnswers.the-variants.Filled n) (FillAnswers.the-variants.Filled m) e = λ i. FillAnswers.the-variants.Filled (value 0 (e i))
 fill-one (FillAnswers.the-variants.Filled n) (FillAnswers.the-variants.Refused t) e = absurd (refusal-some t (sym (ap (λ f. f .refusal) e)))
@@ -132,11 +144,13 @@ four-squares : accepted 2 2 ≡ true
 unfolding accepted
 four-squares = refl
 
-pub made-up-count : (n : ℕ) → ((w h : ℕ) (t : List ℕ) → accepted w h ≡ true → length t ≡ w * h → fill-figures (FillAnswers.the-variants.Filled n) ≡ fill w h t) → ⊥
+four-reported : fill 2 2 (0 ∷ 0 ∷ 0 ∷ 0 ∷ []) ≡ answered (4 ∷ [])
 unfolding fill whole
+four-reported =
+    taken 2 2 (0 ∷ 0 ∷ 0 ∷ 0 ∷ []) 1 (answered (length (blocks (whole 2 2)) ∷ [])) four-squares refl
+    ∙ ap (λ n. answered (n ∷ [])) (sym (blocks-two (square 0 0) +x +y))
+
+pub made-up-count : (n : ℕ) → ((w h : ℕ) (t : List ℕ) → accepted w h ≡ true → length t ≡ w * h → fill-figures (FillAnswers.the-variants.Filled n) ≡ fill w h t) → ⊥
 made-up-count n promise =
-    let one = ap (value 0) (promise 1 1 (0 ∷ []) one-square refl ∙ taken 1 1 (0 ∷ []) 1 (answered (length (blocks (whole 1 1)) ∷ [])) one-square refl) in
-    let four = ap (value 0) (promise 2 2 (0 ∷ 0 ∷ 0 ∷ 0 ∷ []) four-squares refl ∙ taken 2 2 (0 ∷ 0 ∷ 0 ∷ 0 ∷ []) 1 (answered (length (blocks (whole 2 2)) ∷ [])) four-squares refl) in
-    let few = few-reported 1 1 (lit≤ tt) (lit≤ tt) in
-    let is = blocks-two (square 0 0) +x +y in
-    omega arith
+    let most = few-reported 1 1 (0 ∷ []) n (sym (promise 1 1 (0 ∷ []) one-square refl)) in
+    omega (arith, ap (value 0) (promise 2 2 (0 ∷ 0 ∷ 0 ∷ 0 ∷ []) four-squares refl ∙ four-reported))
