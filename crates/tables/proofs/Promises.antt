@@ -154,3 +154,7 @@ pub made-up-count : (n : ℕ) → ((w h : ℕ) (t : List ℕ) → accepted w h �
 made-up-count n promise =
     let most = few-reported 1 1 (0 ∷ []) n (sym (promise 1 1 (0 ∷ []) one-square refl)) in
     omega (arith, ap (value 0) (promise 2 2 (0 ∷ 0 ∷ 0 ∷ 0 ∷ []) four-squares refl ∙ four-reported))
+
+-- and one that reports the bound itself: 7 against 4
+pub bound-reported : ((w h : ℕ) (t : List ℕ) → accepted w h ≡ true → length t ≡ w * h → fill-figures (FillAnswers.the-variants.Filled (2 * (w * h) - 1)) ≡ fill w h t) → ⊥
+bound-reported promise = omega (arith, ap (value 0) (promise 2 2 (0 ∷ 0 ∷ 0 ∷ 0 ∷ []) four-squares refl ∙ four-reported))
