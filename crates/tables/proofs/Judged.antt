@@ -27,7 +27,7 @@ Same ds vs i = getD vs i 0 ≡ getD ds i 0
 pub judged-right : (p : ℕ) (ds vs : List ℕ) → length vs ≡ length ds → ((i : ℕ) → i < length ds → Same ds vs i) → judged p ds vs ≡ 0 ∷ 0 ∷ 0 ∷ []
 unfolding judged
 judged-right p [] vs e same = refl
-judged-right p (d ∷ ds) [] e same = refl
+judged-right p (d ∷ ds) [] e same = absurd (omega arith)
 judged-right p (d ∷ ds) (v ∷ vs) e same =
     rw (eq-eqb v d (same 0 (omega arith))) (judged-right (suc p) ds vs (omega arith) (λ i l. same (suc i) (omega arith)))
 

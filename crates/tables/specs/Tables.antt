@@ -48,7 +48,7 @@ fill-figures (FillAnswers.the-variants.Refused r) = refused r 1
 -- "check a table of either kind: right, or the first wrong place and the value due there", as three values: 0 or 1, the place, the value due.
 unfoldable pub judged : (place : ℕ) (due table : List ℕ) → List ℕ
 judged place [] vs = 0 ∷ 0 ∷ 0 ∷ []
-judged place (d ∷ ds) [] = 0 ∷ 0 ∷ 0 ∷ []
+judged place (d ∷ ds) [] = 1 ∷ place ∷ d ∷ []
 judged place (d ∷ ds) (v ∷ vs) = cond (eqb v d) (judged (suc place) ds vs) (1 ∷ place ∷ d ∷ [])
 
 abbrev pub due-by : (kind-by-square : Bool) (w h : ℕ) → List ℕ
