@@ -7,13 +7,12 @@ use native.Mathlib.Omega.{arith}
 use borrow.Author.Tests.{lt-ltb, le-ltb, le-leb, lt-leb}
 use Rattle.terms.specs.declared.Refusal.the-variants.{AreaLimit, SquareOutside, NumberOutside, TooDeep}
 use Rattle.terms.specs.Terms.{accepted, answered, refused}
-use Rattle.terms.proofs.Laws.{Limits, limits}
+use Rattle.terms.proofs.Laws.{Limits, limits, squares-limit}
 use Rattle.division.specs.Division.{Square, square, whole, square-of, number-of, blocks-holding}
 use Rattle.division.specs.Division.Inside.{x-y, Inside}
 use Rattle.division.proofs.Once.{square-held, number-below}
 use Rattle.division.proofs.Blocks.{whole-inside, at-most-54}
 use Rattle.division.proofs.Local.{Within, whole-holds, whole-within}
-use Rattle.division.proofs.Walks.{product-limit}
 use Rattle.division.specs.Forms.{block-at}
 use Rattle.descents.specs.Descents.{Descends, descent-word}
 use Rattle.searches.specs.Searches.{spot-at, Searches, search-word}
@@ -32,9 +31,6 @@ module _ (w h : ℕ) (yes : accepted w h ≡ true) where
 
   all : Inside w h (whole w h)
   all = whole-inside w h (lengths .w-least) (lengths .h-least)
-
-  pub squares-limit : w * h < 4294967296
-  squares-limit = product-limit w h (lengths .w-most) (lengths .h-most)
 
   few : (p : Square) → blocks-holding (whole w h) p ≤ 54
   few = at-most-54 w h (lengths .w-least) (lengths .w-most) (lengths .h-least) (lengths .h-most)
@@ -100,7 +96,7 @@ module _ (w h : ℕ) (yes : accepted w h ≡ true) where
   module _ (x y : ℕ) (l : x < w) (m : y < h) where
     pub searches : Searches (spot-at w h x y) 0 0
     searches =
-        let limit = squares-limit in
+        let limit = squares-limit w h yes in
         let most = few (square x y) in
         record {
           lying = record { a-limit = lengths .w-most; b-limit = lengths .h-most; along = l; across = m; room = omega arith };
@@ -119,7 +115,7 @@ module _ (w h : ℕ) (yes : accepted w h ≡ true) where
       number-fits =
           let n = word-number in
           let below = number-below w h (whole w h) all (square x y) (whole-holds w h (square x y) (record { run = l; side = m })) in
-          let limit = squares-limit in
+          let limit = squares-limit w h yes in
           omega arith
 
       pub number-deep : 64 < word % 256 → refused TooDeep 2 ≡ square-to-number w h x y

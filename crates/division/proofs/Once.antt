@@ -15,7 +15,7 @@ use Rattle.division.proofs.Sums.{total-all, count-joined, length-joined
 use Rattle.division.proofs.Cuts.{area, areas, inside-parts, holds-parts}
 use Rattle.division.proofs.Places.{counted, found, unique}
 
-row-length : (d : Direction) (n : ℕ) (s : Square) → length (row d n s) ≡ n
+pub row-length : (d : Direction) (n : ℕ) (s : Square) → length (row d n s) ≡ n
 unfolding row
 row-length d zero s = refl
 row-length d (suc n) s = ap suc (row-length d n (moved d 1 s))

@@ -3,7 +3,7 @@ use mathlib.Core.Bool.{Bool, true, false, cond}
 use mathlib.Core.List.{List, [], _∷_, _++_, map, map-append}
 use mathlib.Core.Path.{_≡_, refl, sym, ap, subst, _∙_}
 use Prim.Native.Nat.{ℕ, zero, suc, _+_, _*_, _≤_, _<_}
-use native.Mathlib.Nat.{add-zero, add-suc, suc-add, suc-mul, mul-comm, mul-one, mul-le-mul, mul-le-mul-right}
+use native.Mathlib.Nat.{add-zero, add-suc, suc-add, suc-mul, mul-comm, mul-one, mul-le-mul-right}
 use native.Mathlib.Omega.{arith}
 use lib.ListN.{length, length-set, length-map}
 use Rattle.division.specs.declared.Choice.the-variants.{StraightRun}
@@ -13,9 +13,10 @@ use Rattle.division.specs.Division.Inside.{Inside}
 use Rattle.division.specs.Division.Rules.{rule, run-length}
 use Rattle.division.specs.Forms.{block, stepped-to}
 use Rattle.division.proofs.Plane.{moved-none}
+use Rattle.division.proofs.Once.{row-length}
 use Rattle.division.proofs.Descent.{row-more}
 use Rattle.division.proofs.Local.{Within, spot, spot-inside}
-use Rattle.division.proofs.Walks.{run-moved, inside-grow}
+use Rattle.division.proofs.Walks.{run-moved, inside-grow, product-limit}
 use Rattle.leaves.specs.Walk.{place, over, over-block, entered, Fills}
 
 -- a square's place in a table of either kind
@@ -36,11 +37,6 @@ over-append step state n (p ∷ ps) qs =
     over-append step (step state n p) (suc n) ps qs
     ∙ ap (λ m. over step (over step (step state n p) (suc n) ps) m qs) (suc-add n (length ps) ∙ sym (add-suc n (length ps)))
 
-row-count : (d : Direction) (n : ℕ) (s : Square) → length (row d n s) ≡ n
-unfolding row
-row-count d zero s = refl
-row-count d (suc n) s = ap suc (row-count d n (moved d 1 s))
-
 -- one square of a row more
 pub row-over : {S : Type 0} (step : S → ℕ → ℕ → S) (state : S) (w at : ℕ) (d : Direction) (i : ℕ) (s : Square)
     → over step state at (map (place w) (row d (suc i) s)) ≡ step (over step state at (map (place w) (row d i s))) (at + i) (place w (moved d i s))
@@ -49,7 +45,7 @@ row-over step state w at d i s =
     ap (λ zs. over step state at (map (place w) zs)) (row-more d i s)
     ∙ ap (over step state at) (map-append (place w) (row d i s) (moved d i s ∷ []))
     ∙ over-append step state at (map (place w) (row d i s)) (place w (moved d i s) ∷ [])
-    ∙ ap (λ m. step (over step state at (map (place w) (row d i s))) (at + m) (place w (moved d i s))) (length-map (row d i s) (place w) ∙ row-count d i s)
+    ∙ ap (λ m. step (over step state at (map (place w) (row d i s))) (at + m) (place w (moved d i s))) (length-map (row d i s) (place w) ∙ row-length d i s)
 
 -- a square of the area has its place in the table
 pub place-below : (w h : ℕ) (s : Square) → Within w h s → place w s < w * h
@@ -63,10 +59,10 @@ place-below w h s l =
 pub largest : {w h : ℕ} {t : List ℕ} {k : Block} {at : ℕ} → Fills w h t k at → Inside 65535 65535 k
 largest {w} {h} {k = k} f = inside-grow w h 65535 65535 (f .w-limit) (f .h-limit) k (f .inside)
 
-module _ (k : Placed) {w h : ℕ} {t : List ℕ} {at : ℕ} (f : Fills w h t (block k) at) where
-  pub squares-fit : w * h < 4294967296
-  squares-fit = let p : w * h ≤ 65535 * 65535 = mul-le-mul (f .w-limit) (f .h-limit) in omega arith
+pub squares-fit : {w h : ℕ} {t : List ℕ} {k : Block} {at : ℕ} → Fills w h t k at → w * h < 4294967296
+squares-fit {w} {h} f = product-limit w h (f .w-limit) (f .h-limit)
 
+module _ (k : Placed) {w h : ℕ} {t : List ℕ} {at : ℕ} (f : Fills w h t (block k) at) where
   -- a square of the block has its place in the table
   pub spot-below : (s : Square) → Within (k .a) (k .b) s → place w (spot (block k) s) < w * h
   spot-below s l = place-below w h (spot (block k) s) (spot-inside w h (block k) (f .inside) s l)

@@ -4,7 +4,6 @@ use mathlib.Core.List.{List, [], _∷_, map}
 use mathlib.Core.Path.{_≡_, refl, sym, ap, ap₂, subst⁻¹, _∙_}
 use Prim.Native.Nat.{ℕ, _+_, _*_, _≤_, _<_}
 use native.Mathlib.Numerals.{add-one, add-two}
-use native.Mathlib.Nat.{mul-le-mul}
 use native.Mathlib.Omega.{arith}
 use lib.ListN.{length}
 use Rattle.division.specs.declared.Placed.{Placed}
@@ -16,7 +15,7 @@ use Rattle.division.proofs.Local.{spot, spot-inside, curve-alike}
 use Rattle.division.specs.Division.Small.{two-deep, three-deep, blocks-two, blocks-three}
 use Rattle.division.proofs.Walks.{side-moved}
 use Rattle.leaves.specs.Walk.{place, over, over-block, near, far, Fills}
-use Rattle.leaves.proofs.Entries.{place-below}
+use Rattle.leaves.proofs.Entries.{place-below, squares-fit}
 
 -- two steps on the squares numbered n and n + 1
 abbrev twice : {S : Type 0} → (S → ℕ → ℕ → S) → S → (n p q : ℕ) → S
@@ -121,12 +120,12 @@ leaf-two {k = k} f ea t′ same n l below-p below-q =
     let all : k .a * k .b ≡ 2 * k .b = ap (λ m. m * k .b) ea in
     let room = f .room in
     let size = f .size in
-    let fits = mul-le-mul (f .w-limit) (f .h-limit) in
+    let fits = squares-fit f in
     (omega arith, omega arith, omega arith, omega arith)
 
 pub leaf-number : {w h : ℕ} {t : List ℕ} {k : Block} {at : ℕ} → Fills w h t k at → k .a ≡ 2 → (n : ℕ) → n ≤ 2 * k .b → at + n < 4294967296
 leaf-number {k = k} f ea n l =
     let all : k .a * k .b ≡ 2 * k .b = ap (λ m. m * k .b) ea in
     let room = f .room in
-    let fits = mul-le-mul (f .w-limit) (f .h-limit) in
+    let fits = squares-fit f in
     omega arith

@@ -10,7 +10,7 @@ use borrow.Author.Tests.{eq-eqb, ne-eqb, eqb-true, eqb-false}
 use lib.Dec.{eqb}
 use lib.ListN.{length, getD, length-map}
 use Rattle.terms.specs.Terms.{accepted, answered}
-use Rattle.terms.proofs.Laws.{limits}
+use Rattle.terms.proofs.Laws.{limits, squares-limit}
 use Rattle.division.specs.Division.{Block, whole, curve}
 use Rattle.division.proofs.Once.{length-curve}
 use Rattle.division.proofs.Blocks.{whole-inside}
@@ -18,8 +18,8 @@ use Rattle.tables.specs.Tables.{judged, due-by, check}
 use Rattle.leaves.specs.Walk.{place, wrong-at, checked}
 use Rattle.leaves.proofs.Entries.{either-below}
 use Rattle.leaves.proofs.Checks.{over-below, over-some}
-use Rattle.tables.proofs.Whole.{taken, squares-limit}
-use Rattle.tables.proofs.Listed.{values-below, due-there, looked-for, looked-below, looked-at, due-length}
+use Rattle.tables.proofs.Whole.{taken}
+use Rattle.tables.proofs.Listed.{ps, ps-length, values-below, due-there, looked-for, looked-below, looked-at, due-length}
 
 abbrev pub Same : (ds vs : List ℕ) → ℕ → Type 0
 Same ds vs i = getD vs i 0 ≡ getD ds i 0
@@ -74,34 +74,27 @@ module _ (ds vs : List ℕ) (n : ℕ) (long : length ds ≡ n) (size : length vs
       refl
 
 module _ (w h : ℕ) (a : 1 ≤ w) (b : 1 ≤ h) (limit : w * h < 4294967296) (kind : Bool) (t : List ℕ) (size : length t ≡ w * h) where
-  abbrev ps : List ℕ
-  ps = map (place w) (curve (whole w h))
-
   abbrev due : List ℕ
   due = due-by kind w h
 
   abbrev least : ℕ
   least = checked kind w t (whole w h) 0 (wrong-at (w * h) 0)
 
-  ps-long : length ps ≡ w * h
-  unfolding whole
-  ps-long = length-map (curve (whole w h)) (place w) ∙ length-curve (whole w h) (whole-inside w h a b .sized)
-
   -- the place of each look, and each place's look
-  value : (j : ℕ) → j < w * h → getD due (cond kind (getD ps j 0) (0 + j)) 0 ≡ cond kind (0 + j) (getD ps j 0)
+  value : (j : ℕ) → j < w * h → getD due (cond kind (getD (ps w h) j 0) (0 + j)) 0 ≡ cond kind (0 + j) (getD (ps w h) j 0)
   value j l = due-there w h a b j l (0 + j) (zero-add j) kind
 
-  at : (i : ℕ) → i < w * h → cond kind (getD ps (looked-for w h a b kind i) 0) (0 + looked-for w h a b kind i) ≡ i
+  at : (i : ℕ) → i < w * h → cond kind (getD (ps w h) (looked-for w h a b kind i) 0) (0 + looked-for w h a b kind i) ≡ i
   at i l = looked-at w h a b kind i l (0 + looked-for w h a b kind i) (zero-add (looked-for w h a b kind i))
 
-  value-at : (i : ℕ) → i < w * h → cond kind (0 + looked-for w h a b kind i) (getD ps (looked-for w h a b kind i) 0) ≡ getD due i 0
+  value-at : (i : ℕ) → i < w * h → cond kind (0 + looked-for w h a b kind i) (getD (ps w h) (looked-for w h a b kind i) 0) ≡ getD due i 0
   value-at i l = sym (value (looked-for w h a b kind i) (looked-below w h a b kind i l)) ∙ ap (λ k. getD due k 0) (at i l)
 
   small : (i : ℕ) → i < w * h → getD due i 0 < 4294967296
   small i l =
       let j = looked-for w h a b kind i in
       let both = values-below w h a b j (looked-below w h a b kind i l) (0 + j) (zero-add j) in
-      let under = either-below (getD ps j 0) (0 + j) (w * h) kind (both .1) (both .0) in
+      let under = either-below (getD (ps w h) j 0) (0 + j) (w * h) kind (both .1) (both .0) in
       let is = value-at i l in
       omega arith
 
@@ -109,17 +102,17 @@ module _ (w h : ℕ) (a : 1 ≤ w) (b : 1 ≤ h) (limit : w * h < 4294967296) (k
   below i l other =
       let j = looked-for w h a b kind i in
       subst (λ (n : ℕ). least ≤ n) (ap₂ wrong-at (at i l) (value-at i l))
-      (over-below kind t (wrong-at (w * h) 0) 0 ps j (subst⁻¹ (λ (n : ℕ). j < n) ps-long (looked-below w h a b kind i l))
+      (over-below kind t (wrong-at (w * h) 0) 0 (ps w h) j (subst⁻¹ (λ (n : ℕ). j < n) (ps-length w h a b) (looked-below w h a b kind i l))
       (λ r. other (ap (λ k. getD t k 0) (sym (at i l)) ∙ r ∙ value-at i l)))
 
   some : (P : ℕ → Type 0) → P (wrong-at (w * h) 0) → ((i : ℕ) → i < w * h → (Same due t i → ⊥) → P (wrong-at i (getD due i 0))) → P least
   some P none wrong =
-      over-some kind t P (wrong-at (w * h) 0) 0 ps none
-      (λ j l other. let b′ : j < w * h = subst (λ (n : ℕ). j < n) ps-long l in
-      let i = cond kind (getD ps j 0) (0 + j) in
+      over-some kind t P (wrong-at (w * h) 0) 0 (ps w h) none
+      (λ j l other. let b′ : j < w * h = subst (λ (n : ℕ). j < n) (ps-length w h a b) l in
+      let i = cond kind (getD (ps w h) j 0) (0 + j) in
       let both = values-below w h a b j b′ (0 + j) (zero-add j) in
       subst (λ (v : ℕ). P (wrong-at i v)) (value j b′)
-      (wrong i (either-below (0 + j) (getD ps j 0) (w * h) kind (both .0) (both .1)) (λ s. other (s ∙ value j b′))))
+      (wrong i (either-below (0 + j) (getD (ps w h) j 0) (w * h) kind (both .0) (both .1)) (λ s. other (s ∙ value j b′))))
 
   whole-checked : judged 0 due t ≡ verdict (w * h) least
   whole-checked = first-wrong due t (w * h) (due-length w h a b kind) size small least below some

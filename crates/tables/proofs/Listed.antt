@@ -72,19 +72,20 @@ square-there w s l =
 pub place-there : (w p : ℕ) → place w (square (p % w) (p / w)) ≡ p
 place-there w p = div-add-mod' p w
 
+-- the places of a whole area's squares, in the curve's order
+abbrev pub ps : (w h : ℕ) → List ℕ
+ps w h = map (place w) (curve (whole w h))
+
 module _ (w h : ℕ) (a : 1 ≤ w) (b : 1 ≤ h) where
   pub within-there : (p : ℕ) → p < w * h → Within w h (square (p % w) (p / w))
   within-there p l = record { run = mod-lt p a; side = div-lt-iff-lt-mul a .1 (subst (λ (n : ℕ). p < n) (mul-comm w h) l) }
 
-  ps : List ℕ
-  ps = map (place w) (curve (whole w h))
-
-  ps-length : length ps ≡ w * h
-  unfolding ps whole
+  pub ps-length : length (ps w h) ≡ w * h
+  unfolding whole
   ps-length = length-map (curve (whole w h)) (place w) ∙ length-curve (whole w h) (whole-inside w h a b .sized)
 
-  ps-at : (i : ℕ) → i < w * h → getD ps i 0 ≡ place w (square-of (whole w h) i)
-  unfolding ps square-of whole
+  ps-at : (i : ℕ) → i < w * h → getD (ps w h) i 0 ≡ place w (square-of (whole w h) i)
+  unfolding square-of whole
   ps-at i l =
       getD-map-in (place w) (curve (whole w h)) i 0 (square 0 0) (subst⁻¹ (λ (n : ℕ). i < n) (length-curve (whole w h) (whole-inside w h a b .sized)) l)
 
@@ -93,7 +94,7 @@ module _ (w h : ℕ) (a : 1 ≤ w) (b : 1 ≤ h) where
   ps-square j l = whole-within w h (square-of (whole w h) j) (square-held w h (whole w h) (whole-inside w h a b) j l)
 
   -- a place of the area is that of one square, whose number is the only one there
-  only-number : (p j : ℕ) → j < w * h → getD ps j 0 ≡ p → j ≡ number-of (whole w h) (square (p % w) (p / w))
+  only-number : (p j : ℕ) → j < w * h → getD (ps w h) j 0 ≡ p → j ≡ number-of (whole w h) (square (p % w) (p / w))
   unfolding whole
   only-number p j l e =
       let is : place w (square-of (whole w h) j) ≡ p = sym (ps-at j l) ∙ e in
@@ -101,7 +102,7 @@ module _ (w h : ℕ) (a : 1 ≤ w) (b : 1 ≤ h) where
       ap (λ q. square (q % w) (q / w)) (sym is) ∙ square-there w (square-of (whole w h) j) (ps-square j l .run) in
       sym (ap (number-of (whole w h)) there ∙ number-of-square w h (whole w h) (whole-inside w h a b) j l)
 
-  number-there : (p : ℕ) → p < w * h → (number-of (whole w h) (square (p % w) (p / w)) < w * h) × (getD ps (number-of (whole w h) (square (p % w) (p / w))) 0 ≡ p)
+  number-there : (p : ℕ) → p < w * h → (number-of (whole w h) (square (p % w) (p / w)) < w * h) × (getD (ps w h) (number-of (whole w h) (square (p % w) (p / w))) 0 ≡ p)
   unfolding whole
   number-there p below =
       let s = square (p % w) (p / w) in
@@ -110,20 +111,19 @@ module _ (w h : ℕ) (a : 1 ≤ w) (b : 1 ≤ h) where
       let i-below : number-of (whole w h) s < w * h = number-below w h (whole w h) inside s held in
       (i-below, ps-at (number-of (whole w h) s) i-below ∙ ap (place w) (square-of-number w h (whole w h) inside s held) ∙ place-there w p)
 
-  ps-below : (j : ℕ) → j < w * h → getD ps j 0 < w * h
+  ps-below : (j : ℕ) → j < w * h → getD (ps w h) j 0 < w * h
   ps-below j l = subst⁻¹ (λ (p : ℕ). p < w * h) (ps-at j l) (place-below w h (square-of (whole w h) j) (ps-square j l))
 
   -- A look at square number j, of a table of either kind: its place, and the value due there.
   module _ (j : ℕ) (l : j < w * h) (n : ℕ) (e : n ≡ j) where
-    pub values-below : (n < w * h) × (getD (map (place w) (curve (whole w h))) j 0 < w * h)
-    unfolding ps
+    pub values-below : (n < w * h) × (getD (ps w h) j 0 < w * h)
     values-below = (subst⁻¹ (λ (m : ℕ). m < w * h) e l, ps-below j l)
 
-    pub due-there : (kind : Bool) → getD (due-by kind w h) (cond kind (getD (map (place w) (curve (whole w h))) j 0) n) 0 ≡ cond kind n (getD (map (place w) (curve (whole w h))) j 0)
-    unfolding ps by-number by-square
+    pub due-there : (kind : Bool) → getD (due-by kind w h) (cond kind (getD (ps w h) j 0) n) 0 ≡ cond kind n (getD (ps w h) j 0)
+    unfolding by-number by-square
     due-there false = ap (λ m. getD (by-number w h) m 0) e ∙ place-holds (λ i. square-of (whole w h) i .y * w + square-of (whole w h) i .x) (w * h) j l ∙ sym (ps-at j l)
     due-there true =
-        place-holds (λ p. number-of (whole w h) (square (p % w) (p / w))) (w * h) (getD ps j 0) (ps-below j l) ∙ sym (only-number (getD ps j 0) j l refl) ∙ sym e
+        place-holds (λ p. number-of (whole w h) (square (p % w) (p / w))) (w * h) (getD (ps w h) j 0) (ps-below j l) ∙ sym (only-number (getD (ps w h) j 0) j l refl) ∙ sym e
 
   -- the square that is looked at for a place
   pub looked-for : (kind : Bool) (i : ℕ) → ℕ
@@ -134,8 +134,8 @@ module _ (w h : ℕ) (a : 1 ≤ w) (b : 1 ≤ h) where
   looked-below false i l = l
   looked-below true i l = number-there i l .0
 
-  pub looked-at : (kind : Bool) (i : ℕ) → i < w * h → (n : ℕ) → n ≡ looked-for kind i → cond kind (getD (map (place w) (curve (whole w h))) (looked-for kind i) 0) n ≡ i
-  unfolding ps looked-for
+  pub looked-at : (kind : Bool) (i : ℕ) → i < w * h → (n : ℕ) → n ≡ looked-for kind i → cond kind (getD (ps w h) (looked-for kind i) 0) n ≡ i
+  unfolding looked-for
   looked-at false i l n e = e
   looked-at true i l n e = number-there i l .1
 
@@ -146,23 +146,23 @@ module _ (w h : ℕ) (a : 1 ≤ w) (b : 1 ≤ h) where
 
   module _ (t : List ℕ) (size : length t ≡ w * h) where
     number-table : walked false w t (whole w h) 0 ≡ by-number w h
-    unfolding ps by-number
+    unfolding by-number
     number-table =
-        numbers-entered t 0 ps (zero-add (length ps) ∙ ps-length ∙ sym size)
-        ∙ ext-getD 0 ps (by-number w h) (ps-length ∙ sym (places-length (λ i. square-of (whole w h) i .y * w + square-of (whole w h) i .x) (w * h)))
+        numbers-entered t 0 (ps w h) (zero-add (length (ps w h)) ∙ ps-length ∙ sym size)
+        ∙ ext-getD 0 (ps w h) (by-number w h) (ps-length ∙ sym (places-length (λ i. square-of (whole w h) i .y * w + square-of (whole w h) i .x) (w * h)))
         (λ i l. let below : i < w * h = subst (λ (n : ℕ). i < n) ps-length l in
         ps-at i below ∙ sym (place-holds (λ i. square-of (whole w h) i .y * w + square-of (whole w h) i .x) (w * h) i below))
 
     square-table : walked true w t (whole w h) 0 ≡ by-square w h
-    unfolding ps by-square whole
+    unfolding by-square whole
     square-table =
         let f : ℕ → ℕ = λ p. number-of (whole w h) (square (p % w) (p / w)) in
-        let long : length (walked true w t (whole w h) 0) ≡ w * h = entered-length true t 0 ps ∙ size in
+        let long : length (walked true w t (whole w h) 0) ≡ w * h = entered-length true t 0 (ps w h) ∙ size in
         ext-getD 0 (walked true w t (whole w h) 0) (by-square w h) (long ∙ sym (places-length f (w * h)))
         (λ p l. let below : p < w * h = subst (λ (n : ℕ). p < n) long l in
         let i = number-of (whole w h) (square (p % w) (p / w)) in
         let there = number-there p below in
-        square-entered t 0 ps p i (subst⁻¹ (λ (n : ℕ). p < n) size below) (subst⁻¹ (λ (n : ℕ). i < n) ps-length (there .0)) (there .1)
+        square-entered t 0 (ps w h) p i (subst⁻¹ (λ (n : ℕ). p < n) size below) (subst⁻¹ (λ (n : ℕ). i < n) ps-length (there .0)) (there .1)
         (λ j k e. only-number p j (subst (λ (n : ℕ). j < n) ps-length k) e)
         ∙ zero-add i
         ∙ sym (place-holds f (w * h) p below))

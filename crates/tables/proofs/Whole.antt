@@ -13,7 +13,6 @@ use Rattle.terms.specs.Terms.{accepted, Figures, answered, refused}
 use Rattle.terms.proofs.Laws.{limits, refusal-some}
 use Rattle.division.specs.Division.{whole, curve, blocks-holding, count}
 use Rattle.division.proofs.Blocks.{whole-inside, at-most-54}
-use Rattle.division.proofs.Walks.{product-limit}
 use Rattle.tables.specs.Tables.{some-deep, on-table, unless-refused}
 use Rattle.leaves.specs.Walk.{Fills}
 
@@ -32,9 +31,6 @@ not-deep w h ok =
     (λ s. le-ltb 64 (blocks-holding (whole w h) s)
     (let few = at-most-54 w h (all .w-least) (all .w-most) (all .h-least) (all .h-most) s in omega arith)) in
     rw none
-
-pub squares-limit : (w h : ℕ) → accepted w h ≡ true → w * h < 4294967296
-squares-limit w h ok = let all = limits w h ok in product-limit w h (all .w-most) (all .h-most)
 
 module _ (w h : ℕ) (t : List ℕ) (n : ℕ) (answer : Figures) where
   pub area-refused : accepted w h ≡ false → refused AreaLimit n ≡ on-table w h t n answer

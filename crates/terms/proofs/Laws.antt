@@ -1,7 +1,8 @@
--- What the terms say: an accepted area's lengths, and that a refusal's number names it alone and is never 0.
+-- What the terms say: an accepted area's lengths and squares, and that a refusal's number names it alone and is never 0.
 use mathlib.Core.Bool.{true, cond, and-eq-true-iff}
 use mathlib.Core.Path.{_≡_, refl, sym, ap, _∙_}
-use Prim.Native.Nat.{ℕ, _≤_}
+use Prim.Native.Nat.{ℕ, _*_, _≤_, _<_}
+use native.Mathlib.Nat.{mul-le-mul}
 use borrow.Author.Tests.{leb-true}
 use lib.Dec.{leb, eqb}
 use native.Mathlib.Omega.{arith}
@@ -27,6 +28,13 @@ limits w h e =
       h-least = leb-true 1 h (height .0);
       h-most = leb-true h 65535 (height .1);
     }
+
+-- an accepted area's squares are a 32-bit number
+pub squares-limit : (w h : ℕ) → accepted w h ≡ true → w * h < 4294967296
+squares-limit w h e =
+    let all = limits w h e in
+    let most : w * h ≤ 65535 * 65535 = mul-le-mul (all .w-most) (all .h-most) in
+    omega arith
 
 -- the refusal of a number
 named : ℕ → Refusal

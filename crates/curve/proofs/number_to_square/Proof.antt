@@ -2,7 +2,8 @@
 use borrow.Author.Needs.{needs}
 use borrow.Author.Tests.{not-true, not-false}
 use mathlib.Core.Path.{sym, _∙_}
-use Rattle.curve.proofs.Answers.{squares-limit, descends, along-fits, square-deep, square-found, number-outside, square-limit}
+use Rattle.terms.proofs.Laws.{squares-limit}
+use Rattle.curve.proofs.Answers.{descends, along-fits, square-deep, square-found, number-outside, square-limit}
 use Rattle.curve.proofs.number_to_square.Statement.{statement}
 use Rattle.curve.proofs.number_to_square.Tie as tie
 

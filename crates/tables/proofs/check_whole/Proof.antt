@@ -3,10 +3,11 @@ use borrow.Author.Needs.{needs}
 use mathlib.Core.Path.{sym, subst⁻¹, _∙_}
 use native.Mathlib.Omega.{arith}
 use borrow.Author.Tests.{not-true, not-false}
+use Rattle.terms.proofs.Laws.{squares-limit}
 use Rattle.division.specs.Division.{Block}
 use Rattle.tables.specs.Tables.{check}
 use Rattle.leaves.specs.Walk.{Fills}
-use Rattle.tables.proofs.Whole.{area-refused, length-refused, taken, whole-fills, squares-limit}
+use Rattle.tables.proofs.Whole.{area-refused, length-refused, taken, whole-fills}
 use Rattle.tables.proofs.Judged.{right-is, wrong-is}
 use Rattle.tables.proofs.check_whole.Statement.{statement}
 use Rattle.tables.proofs.check_whole.Tie as tie

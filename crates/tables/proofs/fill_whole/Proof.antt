@@ -7,11 +7,11 @@ use native.Mathlib.Omega.{arith}
 use lib.ListN.{length}
 use Rattle.terms.specs.declared.Refusal.the-variants.{AreaLimit, TableLength}
 use Rattle.terms.specs.Terms.{answered}
-use Rattle.terms.proofs.Laws.{limits}
+use Rattle.terms.proofs.Laws.{limits, squares-limit}
 use Rattle.division.specs.Division.{Block, whole, blocks}
 use Rattle.tables.specs.Tables.{fill}
 use Rattle.leaves.specs.Walk.{walked, Fills}
-use Rattle.tables.proofs.Whole.{squares-limit, area-refused, length-refused, taken, kept, given, whole-fills}
+use Rattle.tables.proofs.Whole.{area-refused, length-refused, taken, kept, given, whole-fills}
 use Rattle.tables.proofs.Listed.{due-table}
 use Rattle.tables.proofs.fill_whole.Statement.{statement}
 use Rattle.tables.proofs.fill_whole.Tie as tie
