@@ -102,22 +102,21 @@ module _ (s : Spot) (before : ℕ) (r : Lying s before) (c : choice (s .a) (s .b
 
 -- a search's word in a straight block, and from a part's to its block's
 module _ {s : Spot} {before above : ℕ} (r : Searches s before above) where
-  at-most : (1 ≤ s .a) × (1 ≤ s .b)
-  at-most = let l = r .lying .along in let m = r .lying .across in (omega arith, omega arith)
-
   lies-in : Within (s .a) (s .b) (square (s .u) (s .v))
   lies-in = record { run = r .lying .along; side = r .lying .across }
 
   pub along-fits : before + s .u < 4294967296
+  unfolding whole
   along-fits =
-      let wide : s .a ≤ s .a * s .b = le-mul-of-pos-right (s .a) (at-most .1) in
+      let wide : s .a ≤ s .a * s .b = le-mul-of-pos-right (s .a) (sized-of s (r .lying) .side) in
       let l = r .lying .along in
       let room = r .lying .room in
       omega arith
 
   pub across-fits : before + s .v < 4294967296
+  unfolding whole
   across-fits =
-      let wide : s .b ≤ s .b * s .a = le-mul-of-pos-right (s .b) (at-most .0) in
+      let wide : s .b ≤ s .b * s .a = le-mul-of-pos-right (s .b) (sized-of s (r .lying) .run) in
       let l = r .lying .across in
       let room = r .lying .room in
       omega (arith, mul-comm (s .a) (s .b))
@@ -126,7 +125,7 @@ module _ {s : Spot} {before above : ℕ} (r : Searches s before above) where
     run-answers : (spot-number s ≡ s .u) × (spot-blocks s ≡ 1)
     unfolding whole
     run-answers =
-        area-run (s .a) (s .b) (at-most .0) (at-most .1) (square (s .u) (s .v)) lies-in c (run-length (whole (s .a) (s .b)) (sized-of s (r .lying)) c)
+        area-run (s .a) (s .b) (sized-of s (r .lying) .run) (sized-of s (r .lying) .side) (square (s .u) (s .v)) lies-in c (run-length (whole (s .a) (s .b)) (sized-of s (r .lying)) c)
 
     pub run-count : above + 1 < 256
     run-count = let n = run-answers .1 in let l = r .count in omega arith
@@ -138,7 +137,7 @@ module _ {s : Spot} {before above : ℕ} (r : Searches s before above) where
     side-answers : (spot-number s ≡ s .v) × (spot-blocks s ≡ 1)
     unfolding whole
     side-answers =
-        area-side (s .a) (s .b) (at-most .0) (at-most .1) (square (s .u) (s .v)) lies-in c (side-length (whole (s .a) (s .b)) (sized-of s (r .lying)) c)
+        area-side (s .a) (s .b) (sized-of s (r .lying) .run) (sized-of s (r .lying) .side) (square (s .u) (s .v)) lies-in c (side-length (whole (s .a) (s .b)) (sized-of s (r .lying)) c)
 
     pub side-count : above + 1 < 256
     side-count = let n = side-answers .1 in let l = r .count in omega arith
