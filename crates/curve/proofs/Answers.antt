@@ -53,11 +53,11 @@ module _ (w h : ℕ) (yes : accepted w h ≡ true) where
     there = whole-within w h (square-of (whole w h) number) (square-held w h (whole w h) all number l)
 
     module _ (word : ℕ) (e : word ≡ descent-word (block-at 0 0 false false w h) number 0) where
-      pub word-blocks : word % 256 ≡ blocks-holding (whole w h) (square-of (whole w h) number)
+      word-blocks : word % 256 ≡ blocks-holding (whole w h) (square-of (whole w h) number)
       unfolding whole
       word-blocks = let most = few (square-of (whole w h) number) in omega arith
 
-      pub word-along : word / 16777216 ≡ square-of (whole w h) number .x
+      word-along : word / 16777216 ≡ square-of (whole w h) number .x
       unfolding whole
       word-along =
           let s = square-of (whole w h) number in
@@ -66,7 +66,7 @@ module _ (w h : ℕ) (yes : accepted w h ≡ true) where
           let limit = lengths .h-most in
           ap (λ n. n / 16777216) e ∙ word-x (s .x) (s .y) (0 + blocks-holding (whole w h) s) (omega arith) (omega arith)
 
-      pub word-across : word / 256 % 65536 ≡ square-of (whole w h) number .y
+      word-across : word / 256 % 65536 ≡ square-of (whole w h) number .y
       unfolding whole
       word-across =
           let s = square-of (whole w h) number in
@@ -104,10 +104,10 @@ module _ (w h : ℕ) (yes : accepted w h ≡ true) where
         }
 
     module _ (word : ℕ) (e : word ≡ search-word (spot-at w h x y) 0 0) where
-      pub number-blocks : word % 256 ≡ blocks-holding (whole w h) (square x y)
+      number-blocks : word % 256 ≡ blocks-holding (whole w h) (square x y)
       number-blocks = let most = few (square x y) in omega arith
 
-      pub word-number : word / 256 ≡ number-of (whole w h) (square x y)
+      word-number : word / 256 ≡ number-of (whole w h) (square x y)
       word-number = let most = few (square x y) in omega arith
 
       pub number-fits : word / 256 < 4294967296

@@ -182,7 +182,7 @@ outgrows S m base = le-ind (λ n. 2 ^ n * S < 3 ^ n) base step
         omega arith
 
 -- so a bound on the squares bounds the blocks that hold one of them
-pub held-by-at-most : (S m : ℕ) → 2 ^ suc m * S < 3 ^ suc m → (k : Block) (p : Square) → Bounded p k → 1 ≤ m → area k ≤ S → blocks-holding k p ≤ m
+held-by-at-most : (S m : ℕ) → 2 ^ suc m * S < 3 ^ suc m → (k : Block) (p : Square) → Bounded p k → 1 ≤ m → area k ≤ S → blocks-holding k p ≤ m
 held-by-at-most S m base k p b l s = by (decLe (blocks-holding k p) m)
   where
     n : ℕ

@@ -16,7 +16,7 @@ use Rattle.division.proofs.Plane.{one-le, moved-add, moved-none}
 use Rattle.division.proofs.Sums.{total, total-all, total-append, count-joined, length-joined, flatten-append, none-of, all-left, all-right}
 use Rattle.division.proofs.Cuts.{area, areas, inside-parts, holds-parts}
 use Rattle.division.proofs.Places.{place-left, place-right}
-use Rattle.division.proofs.Once.{length-curve, once, one-true}
+use Rattle.division.proofs.Once.{length-curve, once}
 use Rattle.division.proofs.Blocks.{bounded, holding-rule}
 
 -- 1 where a block holds the square
@@ -85,9 +85,6 @@ module _ (w h : ℕ) (k : Block) (i : Inside w h k) (before : List Block) (q : B
         let most = one-le (holds k p) in
         (omega arith, omega arith, omega arith)
 
-    pub held-above : holds k p ≡ true
-    held-above = one-true (holds k p) (let whole = alone .2 in omega arith)
-
     pub number-in : number-of k p ≡ total area before + number-of q p
     unfolding number-of
     number-in =
@@ -116,7 +113,7 @@ module _ (w h : ℕ) (k : Block) (i : Inside w h k) (before : List Block) (q : B
         omega arith
 
 -- a straight block: its squares follow in its run or in its side, and it alone holds them
-pub row-at : (d : Direction) (n m : ℕ) (s z : Square) → m < n → getD (row d n s) m z ≡ moved d m s
+row-at : (d : Direction) (n m : ℕ) (s z : Square) → m < n → getD (row d n s) m z ≡ moved d m s
 unfolding row
 row-at d zero m s z l = absurd (omega arith)
 row-at d (suc n) zero s z l = sym (moved-none d s)

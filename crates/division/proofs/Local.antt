@@ -41,13 +41,13 @@ inner A a b s = square (s .y) (s .x)
 inner B a b s = square (s .x) (even-half b + s .y)
 inner C a b s = square (a - 1 - s .y) (even-half b - 1 - s .x)
 
-pub spot-whole : (a b : ℕ) (s : Square) → spot (whole a b) s ≡ s
+spot-whole : (a b : ℕ) (s : Square) → spot (whole a b) s ≡ s
 unfolding spot whole moved
 spot-whole a b s = λ i. record { x = zero-add (s .x) i; y = zero-add (s .y) i }
 
 module _ (w h : ℕ) (k : Block) (i : Inside w h k) where
   -- a block holds what lies within its lengths
-  pub spot-held : (s : Square) → Within (k .a) (k .b) s → holds k (spot k s) ≡ true
+  spot-held : (s : Square) → Within (k .a) (k .b) s → holds k (spot k s) ≡ true
   unfolding spot holds
   spot-held s l =
       let along : within (k .run) (k .a) (k .start) (moved (k .side) (s .y) (moved (k .run) (s .x) (k .start))) ≡ true =
@@ -60,7 +60,7 @@ module _ (w h : ℕ) (k : Block) (i : Inside w h k) where
       rw (along, across)
 
   -- a part's (u, v) is the block's `inner` of it
-  pub spot-part : (p : Part) (s : Square) → 2 ≤ k .b → Within (part p k .a) (part p k .b) s → spot (part p k) s ≡ spot k (inner p (k .a) (k .b) s)
+  spot-part : (p : Part) (s : Square) → 2 ≤ k .b → Within (part p k .a) (part p k .b) s → spot (part p k) s ≡ spot k (inner p (k .a) (k .b) s)
   unfolding spot part inner
   spot-part First s b l = refl
   spot-part Second s b l = ap (moved (k .side) (s .y)) (moved-add (k .run) (even-half (k .a)) (s .x) (k .start))

@@ -71,7 +71,7 @@ pub once : (w h : ℕ) (k : Block) → Inside w h k → (p : Square) → count (
 once w h k i p =
     induction (λ q. Inside w h q → count (same p) (curve q) ≡ one (holds q p)) (λ q s all j. once-step w h p q all j (shape q s)) k (i .sized) i
 
-pub one-true : (b : Bool) → 1 ≤ one b → b ≡ true
+one-true : (b : Bool) → 1 ≤ one b → b ≡ true
 one-true true l = refl
 one-true false l = absurd (omega arith)
 

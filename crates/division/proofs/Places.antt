@@ -10,7 +10,7 @@ use lib.Dec.{eqb}
 use lib.ListN.{length, getD}
 use Rattle.division.specs.Division.{Square, one, count, same, place-in}
 
-pub same-true : (p q : Square) → same p q ≡ true → p ≡ q
+same-true : (p q : Square) → same p q ≡ true → p ≡ q
 unfolding same
 same-true p q e =
     λ i. record {
@@ -18,7 +18,7 @@ same-true p q e =
       y = eqb-true (p .y) (q .y) (and-eq-true-iff (eqb (p .x) (q .x)) (eqb (p .y) (q .y)) .0 e .1) i;
     }
 
-pub same-self : (p : Square) → same p p ≡ true
+same-self : (p : Square) → same p p ≡ true
 unfolding same
 same-self p = rw (eq-eqb (p .x) (p .x) refl, eq-eqb (p .y) (p .y) refl)
 

@@ -19,7 +19,7 @@ pub total-all : {X : Type 0} (f g : X → ℕ) (zs : List X) → All (λ z. f z 
 total-all f g [] h = refl
 total-all f g (z ∷ zs) h = ap₂ _+_ (h .0) (total-all f g zs (h .1))
 
-pub count-append : {X : Type 0} (f : X → Bool) (xs ys : List X) → count f (xs ++ ys) ≡ count f xs + count f ys
+count-append : {X : Type 0} (f : X → Bool) (xs ys : List X) → count f (xs ++ ys) ≡ count f xs + count f ys
 unfolding count
 count-append f [] ys = omega arith
 count-append f (x ∷ xs) ys = ap (λ n. one (f x) + n) (count-append f xs ys) ∙ sym (add-assoc (one (f x)) (count f xs) (count f ys))
@@ -34,7 +34,7 @@ unfolding flatten
 length-joined g [] = refl
 length-joined g (y ∷ ys) = length-append (g y) (flatten (map g ys)) ∙ ap (λ n. length (g y) + n) (length-joined g ys)
 
-pub all-append : {X : Type 0} (P : X → Type 0) (xs ys : List X) → All P xs → All P ys → All P (xs ++ ys)
+all-append : {X : Type 0} (P : X → Type 0) (xs ys : List X) → All P xs → All P ys → All P (xs ++ ys)
 all-append P [] ys h g = g
 all-append P (x ∷ xs) ys h g = (h .0, all-append P xs ys (h .1) g)
 

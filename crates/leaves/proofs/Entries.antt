@@ -64,7 +64,7 @@ squares-fit {w} {h} f = product-limit w h (f .w-limit) (f .h-limit)
 
 module _ (k : Placed) {w h : ℕ} {t : List ℕ} {at : ℕ} (f : Fills w h t (block k) at) where
   -- a square of the block has its place in the table
-  pub spot-below : (s : Square) → Within (k .a) (k .b) s → place w (spot (block k) s) < w * h
+  spot-below : (s : Square) → Within (k .a) (k .b) s → place w (spot (block k) s) < w * h
   spot-below s l = place-below w h (spot (block k) s) (spot-inside w h (block k) (f .inside) s l)
 
   -- along the run of a straight block

@@ -17,7 +17,7 @@ use Rattle.division.proofs.Local.{Within, inner, Lies, in-first, in-second, in-
 use Rattle.division.proofs.Walks.{a-limit, b-limit, Sums, sums}
 use Rattle.searches.specs.Searches.{number-word, spot-number, spot-blocks, Lying, Leads, Searches, search-word}
 
-pub sized-of : (s : Spot) {before : ℕ} → Lying s before → Sized (whole (s .a) (s .b))
+sized-of : (s : Spot) {before : ℕ} → Lying s before → Sized (whole (s .a) (s .b))
 unfolding whole
 sized-of s r = record { run = let l = r .along in omega arith; side = let l = r .across in omega arith }
 

@@ -21,7 +21,7 @@ use Rattle.leaves.proofs.Checks.{over-below, over-some}
 use Rattle.tables.proofs.Whole.{taken}
 use Rattle.tables.proofs.Listed.{ps, ps-length, values-below, due-there, looked-for, looked-below, looked-at, due-length}
 
-abbrev pub Same : (ds vs : List ℕ) → ℕ → Type 0
+abbrev Same : (ds vs : List ℕ) → ℕ → Type 0
 Same ds vs i = getD vs i 0 ≡ getD ds i 0
 
 pub judged-right : (p : ℕ) (ds vs : List ℕ) → length vs ≡ length ds → ((i : ℕ) → i < length ds → Same ds vs i) → judged p ds vs ≡ 0 ∷ 0 ∷ 0 ∷ []
@@ -49,7 +49,7 @@ value-is : (i v : ℕ) → v < 4294967296 → wrong-at i v % 4294967296 ≡ v
 value-is i v l = omega arith
 
 -- What the least wrong place of n says, where n itself as a place means none.
-abbrev pub verdict : (n least : ℕ) → List ℕ
+abbrev verdict : (n least : ℕ) → List ℕ
 verdict n least = cond (eqb least (wrong-at n 0)) (0 ∷ 0 ∷ 0 ∷ []) (1 ∷ (least / 4294967296) ∷ (least % 4294967296) ∷ [])
 
 -- Of a table vs that should hold ds, both of n places: m is n as a place, or a wrong place, and no wrong place is less.

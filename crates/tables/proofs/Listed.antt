@@ -17,7 +17,7 @@ use Rattle.tables.specs.Tables.{places, by-number, by-square, due-by}
 use Rattle.leaves.specs.Walk.{place, over, entered, walked}
 use Rattle.leaves.proofs.Entries.{entered-length, place-below}
 
-pub places-length : (f : ℕ → ℕ) (n : ℕ) → length (places f n) ≡ n
+places-length : (f : ℕ → ℕ) (n : ℕ) → length (places f n) ≡ n
 unfolding places
 places-length f zero = refl
 places-length f (suc n) = length-append (places f n) (f n ∷ []) ∙ ap (λ m. m + 1) (places-length f n) ∙ add-one n
@@ -62,14 +62,14 @@ square-entered t n (q ∷ ps) p (suc i) l m e only =
     ∙ suc-add n i ∙ sym (add-suc n i)
 
 -- a place and its square
-pub square-there : (w : ℕ) (s : Square) → s .x < w → square (place w s % w) (place w s / w) ≡ s
+square-there : (w : ℕ) (s : Square) → s .x < w → square (place w s % w) (place w s / w) ≡ s
 square-there w s l =
     let some : 0 < w = omega arith in
     λ i. square
     ((mul-add-mod-self-right (s .y) w (s .x) ∙ mod-eq-of-lt l) i)
     ((mul-add-div-right some (s .y) (s .x) ∙ ap (λ n. s .y + n) (div-eq-of-lt l) ∙ add-zero (s .y)) i)
 
-pub place-there : (w p : ℕ) → place w (square (p % w) (p / w)) ≡ p
+place-there : (w p : ℕ) → place w (square (p % w) (p / w)) ≡ p
 place-there w p = div-add-mod' p w
 
 -- the places of a whole area's squares, in the curve's order
@@ -77,7 +77,7 @@ abbrev pub ps : (w h : ℕ) → List ℕ
 ps w h = map (place w) (curve (whole w h))
 
 module _ (w h : ℕ) (a : 1 ≤ w) (b : 1 ≤ h) where
-  pub within-there : (p : ℕ) → p < w * h → Within w h (square (p % w) (p / w))
+  within-there : (p : ℕ) → p < w * h → Within w h (square (p % w) (p / w))
   within-there p l = record { run = mod-lt p a; side = div-lt-iff-lt-mul a .1 (subst (λ (n : ℕ). p < n) (mul-comm w h) l) }
 
   pub ps-length : length (ps w h) ≡ w * h

@@ -26,7 +26,7 @@ pub All-use : {X : Type 0} (P Q : X → Type 0) (zs : List X) → All (λ z. P z
 All-use P Q [] f h = tt
 All-use P Q (z ∷ zs) f h = (f .0 (h .0), All-use P Q zs (f .1) (h .1))
 
-pub map-all : {X Y : Type 0} (f g : X → Y) (zs : List X) → All (λ z. f z ≡ g z) zs → map f zs ≡ map g zs
+map-all : {X Y : Type 0} (f g : X → Y) (zs : List X) → All (λ z. f z ≡ g z) zs → map f zs ≡ map g zs
 map-all f g [] h = refl
 map-all f g (z ∷ zs) h = ap₂ (λ y ys. y ∷ ys) (h .0) (map-all f g zs (h .1))
 
