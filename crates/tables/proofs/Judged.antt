@@ -1,21 +1,19 @@
 -- The least wrong place of a walk over a whole area is the first wrong place of the table: every place is looked at, and what is due there is what
 -- the table of that kind holds.
 use mathlib.Core.Bool.{Bool, true, false, cond}
-use mathlib.Core.List.{List, [], _∷_, map}
+use mathlib.Core.List.{List, [], _∷_}
 use mathlib.Core.Path.{_≡_, refl, sym, ap, ap₂, subst, subst⁻¹, _∙_}
 use Prim.Native.Nat.{ℕ, zero, suc, _+_, _*_, _/_, _%_, _≤_, _<_}
 use native.Mathlib.Nat.{add-zero, zero-add, suc-add, add-suc, le-of-suc-le-suc}
 use native.Mathlib.Omega.{arith}
 use borrow.Author.Tests.{eq-eqb, ne-eqb, eqb-true, eqb-false}
 use lib.Dec.{eqb}
-use lib.ListN.{length, getD, length-map}
+use lib.ListN.{length, getD}
 use Rattle.terms.specs.Terms.{accepted, answered}
 use Rattle.terms.proofs.Laws.{limits, squares-limit}
-use Rattle.division.specs.Division.{Block, whole, curve}
-use Rattle.division.proofs.Once.{length-curve}
-use Rattle.division.proofs.Blocks.{whole-inside}
+use Rattle.division.specs.Division.{Block, whole}
 use Rattle.tables.specs.Tables.{judged, due-by, check}
-use Rattle.leaves.specs.Walk.{place, wrong-at, checked}
+use Rattle.leaves.specs.Walk.{wrong-at, checked}
 use Rattle.leaves.proofs.Entries.{either-below}
 use Rattle.leaves.proofs.Checks.{over-below, over-some}
 use Rattle.tables.proofs.Whole.{taken}

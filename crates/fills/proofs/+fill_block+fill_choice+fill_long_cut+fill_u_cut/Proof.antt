@@ -5,7 +5,6 @@ use Prim.Native.Nat.{ℕ, _+_, _-_, _*_, _/_, _<_}
 use native.Mathlib.Omega.{arith}
 use lib.ListN.{length}
 use Rattle.division.specs.Division.{blocks}
-use Rattle.division.specs.Forms.{block}
 use Rattle.division.proofs.Walks.{a-limit, b-limit}
 use Rattle.leaves.specs.Walk.{entered, walked}
 use Rattle.leaves.proofs.Entries.{largest}

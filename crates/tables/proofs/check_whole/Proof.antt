@@ -7,7 +7,7 @@ use Rattle.terms.proofs.Laws.{squares-limit}
 use Rattle.division.specs.Division.{Block}
 use Rattle.tables.specs.Tables.{check}
 use Rattle.leaves.specs.Walk.{Fills}
-use Rattle.tables.proofs.Whole.{area-refused, length-refused, taken, whole-fills}
+use Rattle.tables.proofs.Whole.{area-refused, length-refused, whole-fills}
 use Rattle.tables.proofs.Judged.{right-is, wrong-is}
 use Rattle.tables.proofs.check_whole.Statement.{statement}
 use Rattle.tables.proofs.check_whole.Tie as tie
