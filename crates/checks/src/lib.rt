@@ -6,7 +6,7 @@ ghost use mathlib.Core.Path.{_≡_};
 ghost use Rattle.division.specs.declared.Choice.the-variants.{LongCut, UCut};
 ghost use Rattle.division.specs.Division.{choice};
 ghost use Rattle.division.specs.Forms.{block, block-at};
-ghost use Rattle.leaves.specs.Walk.{checked, Fills};
+ghost use Rattle.leaves.specs.Walk.{checked, Fits};
 
 // A block, its fields handed on one by one: handed on whole it would be copied at each call, which nearly doubles the time.
 pub fn check_block(
@@ -17,7 +17,7 @@ pub fn check_block(
     by_square: bool,
     so_far: u64,
 ) -> u64
-    requires { ⌜ Fills (area .w) (area .h) (now table) (block k) at ⌝ }
+    requires { ⌜ Fits (area .w) (area .h) (now table) (block k) at ⌝ }
     ensures { λ r. ⌜ r ≡ checked «by_square» (area .w) (now (table .entry)) (block k) at «so_far» ⌝ }
 {
     check_choice(
@@ -49,7 +49,7 @@ fn check_choice(
     by_square: bool,
     so_far: u64,
 ) -> u64
-    requires { ⌜ Fills (area .w) (area .h) (now table) (block-at along across turned back a b) at ⌝ }
+    requires { ⌜ Fits (area .w) (area .h) (now table) (block-at along across turned back a b) at ⌝ }
     ensures { λ r. ⌜ r ≡ checked «by_square» (area .w) (now (table .entry)) (block-at along across turned back a b) at «so_far» ⌝ }
 {
     let k = Placed {
@@ -92,7 +92,7 @@ fn check_long_cut(
     by_square: bool,
     so_far: u64,
 ) -> u64
-    requires { ⌜ Fills (area .w) (area .h) (now table) (block k) at × (choice (k .a) (k .b) ≡ LongCut) ⌝ }
+    requires { ⌜ Fits (area .w) (area .h) (now table) (block k) at × (choice (k .a) (k .b) ≡ LongCut) ⌝ }
     ensures { λ r. ⌜ r ≡ checked «by_square» (area .w) (now (table .entry)) (block k) at «so_far» ⌝ }
 {
     let to_second = at + division::even_half(k.a) * k.b;
@@ -116,7 +116,7 @@ fn check_long_cut(
 
 // The three parts of a U cut.
 fn check_u_cut(table: &[u32], k: Placed, area: Area, at: u32, by_square: bool, so_far: u64) -> u64
-    requires { ⌜ Fills (area .w) (area .h) (now table) (block k) at × (choice (k .a) (k .b) ≡ UCut) ⌝ }
+    requires { ⌜ Fits (area .w) (area .h) (now table) (block k) at × (choice (k .a) (k .b) ≡ UCut) ⌝ }
     ensures { λ r. ⌜ r ≡ checked «by_square» (area .w) (now (table .entry)) (block k) at «so_far» ⌝ }
 {
     let e = division::even_half(k.b);

@@ -11,11 +11,11 @@ use Rattle.division.specs.Division.{Block, choice, First, Second, A, B, C, part
 use Rattle.division.specs.Division.Rules.{rule}
 use Rattle.division.specs.Forms.{block}
 use Rattle.division.proofs.Blocks.{few-blocks}
-use Rattle.leaves.specs.Walk.{exchanged, Fills}
+use Rattle.leaves.specs.Walk.{exchanged, Fits}
 use Rattle.leaves.proofs.Entries.{run-count}
 use Rattle.leaves.proofs.Parts.{side-call}
 
-module _ {w h : ℕ} {t : List ℕ} {k : Block} {at : ℕ} (f : Fills w h t k at) where
+module _ {w h : ℕ} {t : List ℕ} {k : Block} {at : ℕ} (f : Fits w h t k at) where
   -- a count of blocks is a 64-bit number
   few : length (blocks k) < 8589934592
   few =

@@ -17,17 +17,17 @@ use Rattle.division.proofs.Once.{row-length}
 use Rattle.division.proofs.Descent.{row-more}
 use Rattle.division.proofs.Local.{Within, spot, spot-inside}
 use Rattle.division.proofs.Walks.{run-moved, inside-grow, product-limit}
-use Rattle.leaves.specs.Walk.{place, over, over-block, entered, Fills}
+use Rattle.leaves.specs.Walk.{place, over, over-block, enter-one, Fits}
 
 -- a square's place in a table of either kind
 pub either-below : (n p size : ℕ) (by-square : Bool) → n < size → p < size → cond by-square p n < size
 either-below n p size true l m = m
 either-below n p size false l m = l
 
-pub entered-length : (by-square : Bool) (t : List ℕ) (n : ℕ) (ps : List ℕ) → length (over (entered by-square) t n ps) ≡ length t
+pub enter-length : (by-square : Bool) (t : List ℕ) (n : ℕ) (ps : List ℕ) → length (over (enter-one by-square) t n ps) ≡ length t
 unfolding over
-entered-length by-square t n [] = refl
-entered-length by-square t n (p ∷ ps) = entered-length by-square (entered by-square t n p) (suc n) ps ∙ length-set t (cond by-square p n) (cond by-square n p)
+enter-length by-square t n [] = refl
+enter-length by-square t n (p ∷ ps) = enter-length by-square (enter-one by-square t n p) (suc n) ps ∙ length-set t (cond by-square p n) (cond by-square n p)
 
 -- two lists in a row are the lists joined
 pub over-append : {S : Type 0} (step : S → ℕ → ℕ → S) (state : S) (n : ℕ) (ps qs : List ℕ) → over step state n (ps ++ qs) ≡ over step (over step state n ps) (n + length ps) qs
@@ -56,13 +56,13 @@ place-below w h s l =
     omega (arith, mul-comm w h)
 
 -- What a walk knows of its block.
-pub largest : {w h : ℕ} {t : List ℕ} {k : Block} {at : ℕ} → Fills w h t k at → Inside 65535 65535 k
+pub largest : {w h : ℕ} {t : List ℕ} {k : Block} {at : ℕ} → Fits w h t k at → Inside 65535 65535 k
 largest {w} {h} {k = k} f = inside-grow w h 65535 65535 (f .w-limit) (f .h-limit) k (f .inside)
 
-pub squares-fit : {w h : ℕ} {t : List ℕ} {k : Block} {at : ℕ} → Fills w h t k at → w * h < 4294967296
+pub squares-fit : {w h : ℕ} {t : List ℕ} {k : Block} {at : ℕ} → Fits w h t k at → w * h < 4294967296
 squares-fit {w} {h} f = product-limit w h (f .w-limit) (f .h-limit)
 
-module _ (k : Placed) {w h : ℕ} {t : List ℕ} {at : ℕ} (f : Fills w h t (block k) at) where
+module _ (k : Placed) {w h : ℕ} {t : List ℕ} {at : ℕ} (f : Fits w h t (block k) at) where
   -- a square of the block has its place in the table
   spot-below : (s : Square) → Within (k .a) (k .b) s → place w (spot (block k) s) < w * h
   spot-below s l = place-below w h (spot (block k) s) (spot-inside w h (block k) (f .inside) s l)

@@ -14,7 +14,7 @@ use Rattle.division.proofs.Plane.{moved-none}
 use Rattle.division.proofs.Local.{spot, spot-inside, curve-alike}
 use Rattle.division.specs.Division.Small.{two-deep, three-deep, blocks-two, blocks-three}
 use Rattle.division.proofs.Walks.{side-moved}
-use Rattle.leaves.specs.Walk.{place, over, over-block, near, far, Fills}
+use Rattle.leaves.specs.Walk.{place, over, over-block, near, far, Fits}
 use Rattle.leaves.proofs.Entries.{place-below, squares-fit}
 
 -- two steps on the squares numbered n and n + 1
@@ -114,7 +114,7 @@ module _ (k : Placed) (w v : ℕ) {beyond up : ℕ} (eb : beyond ≡ stepped-to 
       (ap₂ (λ m n. cond (k .turned) (square m n) (square n m)) eu eb ∙ both-moved (k .along) (k .across) (k .turned) (k .back) v)
 
 -- room for two numbers of a leaf, and for their squares' places
-pub leaf-two : {w h : ℕ} {t : List ℕ} {k : Block} {at : ℕ} → Fills w h t k at → k .a ≡ 2 → (t′ : List ℕ) → length t′ ≡ length t → (n : ℕ) → n + 2 ≤ at + 2 * k .b
+pub leaf-two : {w h : ℕ} {t : List ℕ} {k : Block} {at : ℕ} → Fits w h t k at → k .a ≡ 2 → (t′ : List ℕ) → length t′ ≡ length t → (n : ℕ) → n + 2 ≤ at + 2 * k .b
     → {p q : ℕ} → p < w * h → q < w * h → (n + 1 < 4294967296) × (n + 1 < length t′) × (p < length t′) × (q < length t′)
 leaf-two {k = k} f ea t′ same n l below-p below-q =
     let all : k .a * k .b ≡ 2 * k .b = ap (λ m. m * k .b) ea in
@@ -123,7 +123,7 @@ leaf-two {k = k} f ea t′ same n l below-p below-q =
     let fits = squares-fit f in
     (omega arith, omega arith, omega arith, omega arith)
 
-pub leaf-number : {w h : ℕ} {t : List ℕ} {k : Block} {at : ℕ} → Fills w h t k at → k .a ≡ 2 → (n : ℕ) → n ≤ 2 * k .b → at + n < 4294967296
+pub leaf-number : {w h : ℕ} {t : List ℕ} {k : Block} {at : ℕ} → Fits w h t k at → k .a ≡ 2 → (n : ℕ) → n ≤ 2 * k .b → at + n < 4294967296
 leaf-number {k = k} f ea n l =
     let all : k .a * k .b ≡ 2 * k .b = ap (λ m. m * k .b) ea in
     let room = f .room in

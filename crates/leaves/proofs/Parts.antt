@@ -17,13 +17,13 @@ use Rattle.division.proofs.Cuts.{area}
 use Rattle.division.proofs.Once.{length-curve}
 use Rattle.division.proofs.Descent.{part-inside, skip-fits}
 use Rattle.division.proofs.Walks.{Sums, sums}
-use Rattle.leaves.specs.Walk.{place, over, over-block, exchanged, Fills}
+use Rattle.leaves.specs.Walk.{place, over, over-block, exchanged, Fits}
 use Rattle.leaves.proofs.Entries.{over-append}
 
 -- one call on a part: its measure is less, and it has its room
-module _ {w h : ℕ} {t : List ℕ} {k : Block} {at : ℕ} (f : Fills w h t k at) (before : List Block) (q : Block) (after : List Block) (e : parts k ≡ before ++ (q ∷ after)) where
+module _ {w h : ℕ} {t : List ℕ} {k : Block} {at : ℕ} (f : Fits w h t k at) (before : List Block) (q : Block) (after : List Block) (e : parts k ≡ before ++ (q ∷ after)) where
   call : (t′ : List ℕ) → length t′ ≡ length t → (on : ℕ) → on ≡ at + total area before → (r : Placed) → block r ≡ q
-      → (3 * (r .a * r .b) + 2 < 3 * (k .a * k .b)) × Fills w h t′ (block r) on
+      → (3 * (r .a * r .b) + 2 < 3 * (k .a * k .b)) × Fits w h t′ (block r) on
   call t′ same on is r there =
       let inside = part-inside w h k (f .inside) before q after e in
       let less : Smaller k q = all-right (Smaller k) before (q ∷ after) (subst (All (Smaller k)) e (smaller k (f .inside .sized))) .0 in
@@ -33,7 +33,7 @@ module _ {w h : ℕ} {t : List ℕ} {k : Block} {at : ℕ} (f : Fills w h t k at
       let fits = skip-fits w h k (f .inside) before q after e in
       let room = f .room in (
         omega arith,
-        subst⁻¹ (λ (b : Block). Fills w h t′ b on) there
+        subst⁻¹ (λ (b : Block). Fits w h t′ b on) there
             (record { w-limit = f .w-limit; h-limit = f .h-limit; inside = inside; size = same ∙ f .size; room = omega arith }),
       )
 
@@ -47,17 +47,17 @@ first-over step state w k q zs at s e =
     ∙ ap (λ n. over step (over-block step state w q at) (at + n) (map (place w) zs)) (length-map (curve q) (place w) ∙ length-curve q s)
 
 -- the long cut
-module _ {w h : ℕ} {t : List ℕ} {k : Block} {at : ℕ} (f : Fills w h t k at) (c : choice (k .a) (k .b) ≡ LongCut) {e : ℕ} (half : e ≡ even-half (k .a)) where
+module _ {w h : ℕ} {t : List ℕ} {k : Block} {at : ℕ} (f : Fits w h t k at) (c : choice (k .a) (k .b) ≡ LongCut) {e : ℕ} (half : e ≡ even-half (k .a)) where
   sized-first : Sized (part First k)
   unfolding parts-of
   sized-first = part-inside w h k (f .inside) [] (part First k) (part Second k ∷ []) (parts-are k LongCut c) .sized
 
-  pub first-call : (r : Placed) → block r ≡ part First k → (3 * (r .a * r .b) + 2 < 3 * (k .a * k .b)) × Fills w h t (block r) at
+  pub first-call : (r : Placed) → block r ≡ part First k → (3 * (r .a * r .b) + 2 < 3 * (k .a * k .b)) × Fits w h t (block r) at
   unfolding parts-of
   first-call r there = call f [] (part First k) (part Second k ∷ []) (parts-are k LongCut c) t refl at (omega arith) r there
 
   pub second-call : (t′ : List ℕ) → length t′ ≡ length t → (r : Placed) → block r ≡ part Second k
-      → (3 * (r .a * r .b) + 2 < 3 * (k .a * k .b)) × Fills w h t′ (block r) (at + e * k .b)
+      → (3 * (r .a * r .b) + 2 < 3 * (k .a * k .b)) × Fits w h t′ (block r) (at + e * k .b)
   unfolding parts-of part
   second-call t′ same r there =
       call f (part First k ∷ []) (part Second k) [] (parts-are k LongCut c) t′ same (at + e * k .b)
@@ -80,10 +80,10 @@ module _ {w h : ℕ} {t : List ℕ} {k : Block} {at : ℕ} (f : Fills w h t k at
       ∙ sym (first-over step state w k (part First k) (curve (part Second k)) at sized-first (rule k LongCut (f .inside .sized) c .0))
 
 -- the U cut
-pub u-deep : {w h : ℕ} {t : List ℕ} {k : Block} {at : ℕ} → Fills w h t k at → choice (k .a) (k .b) ≡ UCut → 2 ≤ k .b
+pub u-deep : {w h : ℕ} {t : List ℕ} {k : Block} {at : ℕ} → Fits w h t k at → choice (k .a) (k .b) ≡ UCut → 2 ≤ k .b
 u-deep {k = k} f c = u-lengths k (f .inside .sized) c .1
 
-module _ {w h : ℕ} {t : List ℕ} {k : Block} {at : ℕ} (f : Fills w h t k at) (c : choice (k .a) (k .b) ≡ UCut) {e : ℕ} (half : e ≡ even-half (k .b)) where
+module _ {w h : ℕ} {t : List ℕ} {k : Block} {at : ℕ} (f : Fits w h t k at) (c : choice (k .a) (k .b) ≡ UCut) {e : ℕ} (half : e ≡ even-half (k .b)) where
   sized-a : Sized (part A k)
   unfolding parts-of
   sized-a =
@@ -94,20 +94,20 @@ module _ {w h : ℕ} {t : List ℕ} {k : Block} {at : ℕ} (f : Fills w h t k at
   sized-b =
       part-inside w h k (f .inside) (part A k ∷ []) (part B k) (part C k ∷ []) (parts-are k UCut c) .sized
 
-  pub a-call : (r : Placed) → block r ≡ part A k → (3 * (r .a * r .b) + 2 < 3 * (k .a * k .b)) × Fills w h t (block r) at
+  pub a-call : (r : Placed) → block r ≡ part A k → (3 * (r .a * r .b) + 2 < 3 * (k .a * k .b)) × Fits w h t (block r) at
   unfolding parts-of
   a-call r there =
       call f [] (part A k) (part B k ∷ part C k ∷ []) (parts-are k UCut c) t refl at (omega arith) r there
 
   pub b-call : (t′ : List ℕ) → length t′ ≡ length t → (r : Placed) → block r ≡ part B k
-      → (3 * (r .a * r .b) + 2 < 3 * (k .a * k .b)) × Fills w h t′ (block r) (at + e * (k .a / 2))
+      → (3 * (r .a * r .b) + 2 < 3 * (k .a * k .b)) × Fits w h t′ (block r) (at + e * (k .a / 2))
   unfolding parts-of part
   b-call t′ same r there =
       call f (part A k ∷ []) (part B k) (part C k ∷ []) (parts-are k UCut c) t′ same (at + e * (k .a / 2))
       (rw half (omega arith)) r there
 
   pub c-call : (t′ : List ℕ) → length t′ ≡ length t → (r : Placed) → block r ≡ part C k
-      → (3 * (r .a * r .b) + 2 < 3 * (k .a * k .b)) × Fills w h t′ (block r) (at + e * (k .a / 2) + k .a * (k .b - e))
+      → (3 * (r .a * r .b) + 2 < 3 * (k .a * k .b)) × Fits w h t′ (block r) (at + e * (k .a / 2) + k .a * (k .b - e))
   unfolding parts-of part
   c-call t′ same r there =
       call f (part A k ∷ part B k ∷ []) (part C k) [] (parts-are k UCut c) t′ same (at + e * (k .a / 2) + k .a * (k .b - e))
@@ -137,10 +137,10 @@ module _ {w h : ℕ} {t : List ℕ} {k : Block} {at : ℕ} (f : Fills w h t k at
       (length-map (curve (part B k)) (place w) ∙ length-curve (part B k) sized-b))
 
 -- a straight block with run and side exchanged: the same squares in the same order
-module _ {w h : ℕ} {t : List ℕ} {k : Block} {at : ℕ} (f : Fills w h t k at) (c : choice (k .a) (k .b) ≡ StraightSide) where
-  exchanged-fills : Fills w h t (exchanged k) at
+module _ {w h : ℕ} {t : List ℕ} {k : Block} {at : ℕ} (f : Fits w h t k at) (c : choice (k .a) (k .b) ≡ StraightSide) where
+  exchanged-fits : Fits w h t (exchanged k) at
   unfolding exchanged
-  exchanged-fills =
+  exchanged-fits =
       let room = f .room in
       record {
         w-limit = f .w-limit;
@@ -159,14 +159,14 @@ module _ {w h : ℕ} {t : List ℕ} {k : Block} {at : ℕ} (f : Fills w h t k at
   unfolding exchanged choice
   exchanged-case = rw (side-length k (f .inside .sized) c)
 
-  pub side-call : (r : Placed) → block r ≡ exchanged k → Fills w h t (block r) at × (choice (r .a) (r .b) ≡ StraightRun)
+  pub side-call : (r : Placed) → block r ≡ exchanged k → Fits w h t (block r) at × (choice (r .a) (r .b) ≡ StraightRun)
   side-call r there =
-      subst⁻¹ (λ (j : Block). Fills w h t j at × (choice (j .a) (j .b) ≡ StraightRun)) there (exchanged-fills, exchanged-case)
+      subst⁻¹ (λ (j : Block). Fits w h t j at × (choice (j .a) (j .b) ≡ StraightRun)) there (exchanged-fits, exchanged-case)
 
   pub side-over : {S : Type 0} (step : S → ℕ → ℕ → S) (state : S) (r : Placed) → block r ≡ exchanged k → over-block step state w (block r) at ≡ over-block step state w k at
   unfolding exchanged
   side-over step state r there =
       ap (λ zs. over step state at (map (place w) zs))
       (ap curve there
-      ∙ rule (exchanged k) StraightRun (exchanged-fills .inside .sized) exchanged-case .0
+      ∙ rule (exchanged k) StraightRun (exchanged-fits .inside .sized) exchanged-case .0
       ∙ sym (rule k StraightSide (f .inside .sized) c .0))

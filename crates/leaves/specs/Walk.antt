@@ -21,11 +21,11 @@ abbrev pub over-block : {S : Type 0} → (S → ℕ → ℕ → S) → S → (w 
 over-block step state w k at = over step state at (map (place w) (curve k))
 
 -- The table with square number n, at place p, entered: by square n at p, else p at n. So, with a block's squares entered.
-abbrev pub entered : (by-square : Bool) → List ℕ → (n p : ℕ) → List ℕ
-entered by-square t n p = set t (cond by-square p n) (cond by-square n p)
+abbrev pub enter-one : (by-square : Bool) → List ℕ → (n p : ℕ) → List ℕ
+enter-one by-square t n p = set t (cond by-square p n) (cond by-square n p)
 
-abbrev pub walked : (by-square : Bool) (w : ℕ) → List ℕ → Block → (at : ℕ) → List ℕ
-walked by-square w t k at = over-block (entered by-square) t w k at
+abbrev pub filled-with : (by-square : Bool) (w : ℕ) → List ℕ → Block → (at : ℕ) → List ℕ
+filled-with by-square w t k at = over-block (enter-one by-square) t w k at
 
 -- A wrong place and the value due there as one number: of two, the lesser place has the lesser number.
 abbrev pub wrong-at : (place due : ℕ) → ℕ
@@ -40,7 +40,7 @@ abbrev pub checked : (by-square : Bool) (w : ℕ) → List ℕ → Block → (at
 checked by-square w t k at least = over-block (least-one by-square t) least w k at
 
 -- A block that lies within the area of the table, with room for its squares' numbers from `at` on.
-pub record Fills (w h : ℕ) (t : List ℕ) (k : Block) (at : ℕ) : Type 0 where
+pub record Fits (w h : ℕ) (t : List ℕ) (k : Block) (at : ℕ) : Type 0 where
   pub w-limit : w ≤ 65535
   pub h-limit : h ≤ 65535
   pub inside : Inside w h k

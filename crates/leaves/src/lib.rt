@@ -9,7 +9,7 @@ ghost use Rattle.division.specs.declared.Choice.the-variants.{StraightRun};
 ghost use Rattle.division.specs.Division.{square, choice, blocks};
 ghost use Rattle.division.specs.Division.Inside.{Inside};
 ghost use Rattle.division.specs.Forms.{block};
-ghost use Rattle.leaves.specs.Walk.{place, entered, walked, exchanged, near, far, Fills, least-one, checked};
+ghost use Rattle.leaves.specs.Walk.{place, enter-one, filled-with, exchanged, near, far, Fits, least-one, checked};
 
 // A square's place in a table by square.
 fn place_of(along: u32, across: u32, turned: bool, w: u32) -> u32
@@ -22,7 +22,7 @@ fn place_of(along: u32, across: u32, turned: bool, w: u32) -> u32
 // Enters square number n, which has the place p.
 fn enter(table: &mut [u32], n: u32, p: u32, by_square: bool)
     requires { ⌜ (n < length (now table)) × (p < length (now table)) ⌝ }
-    ensures { λ r. ⌜ now (table .exit) ≡ entered «by_square» (now (table .entry)) n p ⌝ }
+    ensures { λ r. ⌜ now (table .exit) ≡ enter-one «by_square» (now (table .entry)) n p ⌝ }
 {
     let i = division::either(by_square, p, n) as usize;
     table[i] = division::either(by_square, n, p);
@@ -30,8 +30,8 @@ fn enter(table: &mut [u32], n: u32, p: u32, by_square: bool)
 
 // The squares of a straight block, which follow in its run.
 pub fn fill_run(table: &mut [u32], k: Placed, area: Area, at: u32, by_square: bool) -> u64
-    requires { ⌜ Fills (area .w) (area .h) (now table) (block k) at × (choice (k .a) (k .b) ≡ StraightRun) ⌝ }
-    ensures { λ r. ⌜ (now (table .exit) ≡ walked «by_square» (area .w) (now (table .entry)) (block k) at) × (r ≡ length (blocks (block k))) ⌝ }
+    requires { ⌜ Fits (area .w) (area .h) (now table) (block k) at × (choice (k .a) (k .b) ≡ StraightRun) ⌝ }
+    ensures { λ r. ⌜ (now (table .exit) ≡ filled-with «by_square» (area .w) (now (table .entry)) (block k) at) × (r ≡ length (blocks (block k))) ⌝ }
 {
     let w = area.w;
     for i in 0..k.a {
@@ -58,7 +58,7 @@ pub fn exchanged_block(k: Placed) -> Placed
 // Enters two squares, numbered on from n.
 fn enter_two(table: &mut [u32], n: u32, p: u32, q: u32, by_square: bool)
     requires { ⌜ (n + 1 < 4294967296) × (n + 1 < length (now table)) × (p < length (now table)) × (q < length (now table)) ⌝ }
-    ensures { λ r. ⌜ now (table .exit) ≡ entered «by_square» (entered «by_square» (now (table .entry)) n p) (n + 1) q ⌝ }
+    ensures { λ r. ⌜ now (table .exit) ≡ enter-one «by_square» (enter-one «by_square» (now (table .entry)) n p) (n + 1) q ⌝ }
 {
     enter(table, n, p, by_square);
     enter(table, n + 1, q, by_square);
@@ -86,8 +86,8 @@ fn rung_at(k: Placed, v: u32, area: Area) -> Rung
 
 // A block 2 wide and 2 or 3 deep, at once, up its side and down again: most of a large area's squares lie in one.
 pub fn fill_leaf(table: &mut [u32], k: Placed, area: Area, at: u32, by_square: bool) -> u64
-    requires { ⌜ Fills (area .w) (area .h) (now table) (block k) at × (k .a ≡ 2) × (2 ≤ k .b) × (k .b ≤ 3) ⌝ }
-    ensures { λ r. ⌜ (now (table .exit) ≡ walked «by_square» (area .w) (now (table .entry)) (block k) at) × (r ≡ length (blocks (block k))) ⌝ }
+    requires { ⌜ Fits (area .w) (area .h) (now table) (block k) at × (k .a ≡ 2) × (2 ≤ k .b) × (k .b ≤ 3) ⌝ }
+    ensures { λ r. ⌜ (now (table .exit) ≡ filled-with «by_square» (area .w) (now (table .entry)) (block k) at) × (r ≡ length (blocks (block k))) ⌝ }
 {
     let deep = k.b;
     let low = rung_at(k, 0, area);
@@ -123,7 +123,7 @@ fn compare(table: &[u32], n: u32, p: u32, by_square: bool, least: u64) -> u64
 
 // The squares of a straight block, which follow in its run.
 pub fn check_run(table: &[u32], k: Placed, area: Area, at: u32, by_square: bool, so_far: u64) -> u64
-    requires { ⌜ Fills (area .w) (area .h) (now table) (block k) at × (choice (k .a) (k .b) ≡ StraightRun) ⌝ }
+    requires { ⌜ Fits (area .w) (area .h) (now table) (block k) at × (choice (k .a) (k .b) ≡ StraightRun) ⌝ }
     ensures { λ r. ⌜ r ≡ checked «by_square» (area .w) (now (table .entry)) (block k) at «so_far» ⌝ }
 {
     let w = area.w;
@@ -158,7 +158,7 @@ pub fn check_leaf(
     by_square: bool,
     so_far: u64,
 ) -> u64
-    requires { ⌜ Fills (area .w) (area .h) (now table) (block k) at × (k .a ≡ 2) × (2 ≤ k .b) × (k .b ≤ 3) ⌝ }
+    requires { ⌜ Fits (area .w) (area .h) (now table) (block k) at × (k .a ≡ 2) × (2 ≤ k .b) × (k .b ≤ 3) ⌝ }
     ensures { λ r. ⌜ r ≡ checked «by_square» (area .w) (now (table .entry)) (block k) at «so_far» ⌝ }
 {
     let deep = k.b;

@@ -14,8 +14,8 @@ use Rattle.division.proofs.Once.{length-curve, square-held, square-of-number, n
 use Rattle.division.proofs.Blocks.{whole-inside}
 use Rattle.division.proofs.Local.{Within, whole-holds, whole-within, getD-map-in}
 use Rattle.tables.specs.Tables.{places, by-number, by-square, due-by}
-use Rattle.leaves.specs.Walk.{place, over, entered, walked}
-use Rattle.leaves.proofs.Entries.{entered-length, place-below}
+use Rattle.leaves.specs.Walk.{place, over, enter-one, filled-with}
+use Rattle.leaves.proofs.Entries.{enter-length, place-below}
 
 places-length : (f : ℕ → ℕ) (n : ℕ) → length (places f n) ≡ n
 unfolding places
@@ -32,7 +32,7 @@ place-holds f (suc n) i l =
     (eq-or-lt-of-le (le-of-suc-le-suc l))
 
 -- by number: the places themselves, from the first number on
-numbers-entered : (t : List ℕ) (n : ℕ) (ps : List ℕ) → n + length ps ≡ length t → over (entered false) t n ps ≡ take n t ++ ps
+numbers-entered : (t : List ℕ) (n : ℕ) (ps : List ℕ) → n + length ps ≡ length t → over (enter-one false) t n ps ≡ take n t ++ ps
 unfolding over
 numbers-entered t n [] e = sym (append-nil (take n t) ∙ take-all n t (omega arith))
 numbers-entered t n (p ∷ ps) e =
@@ -41,14 +41,14 @@ numbers-entered t n (p ∷ ps) e =
     ∙ append-assoc (take n t) (p ∷ []) ps
 
 -- by square: a place that is not among those entered keeps its value, and one that is gets its number
-kept-place : (t : List ℕ) (n : ℕ) (ps : List ℕ) (p : ℕ) → ((j : ℕ) → j < length ps → getD ps j 0 ≡ p → ⊥) → getD (over (entered true) t n ps) p 0 ≡ getD t p 0
+kept-place : (t : List ℕ) (n : ℕ) (ps : List ℕ) (p : ℕ) → ((j : ℕ) → j < length ps → getD ps j 0 ≡ p → ⊥) → getD (over (enter-one true) t n ps) p 0 ≡ getD t p 0
 unfolding over
 kept-place t n [] p other = refl
 kept-place t n (q ∷ ps) p other =
     kept-place (set t q n) (suc n) ps p (λ j l e. other (suc j) (omega arith) e) ∙ getD-set-other t q p n 0 (λ e. other 0 (omega arith) (sym e))
 
 square-entered : (t : List ℕ) (n : ℕ) (ps : List ℕ) (p i : ℕ) → p < length t → i < length ps → getD ps i 0 ≡ p
-    → ((j : ℕ) → j < length ps → getD ps j 0 ≡ p → j ≡ i) → getD (over (entered true) t n ps) p 0 ≡ n + i
+    → ((j : ℕ) → j < length ps → getD ps j 0 ≡ p → j ≡ i) → getD (over (enter-one true) t n ps) p 0 ≡ n + i
 unfolding over
 square-entered t n [] p i l m e only = absurd (omega arith)
 square-entered t n (q ∷ ps) p zero l m e only =
@@ -145,7 +145,7 @@ module _ (w h : ℕ) (a : 1 ≤ w) (b : 1 ≤ h) where
   due-length true = places-length (λ p. number-of (whole w h) (square (p % w) (p / w))) (w * h)
 
   module _ (t : List ℕ) (size : length t ≡ w * h) where
-    number-table : walked false w t (whole w h) 0 ≡ by-number w h
+    number-table : filled-with false w t (whole w h) 0 ≡ by-number w h
     unfolding by-number
     number-table =
         numbers-entered t 0 (ps w h) (zero-add (length (ps w h)) ∙ ps-length ∙ sym size)
@@ -153,12 +153,12 @@ module _ (w h : ℕ) (a : 1 ≤ w) (b : 1 ≤ h) where
         (λ i l. let below : i < w * h = subst (λ (n : ℕ). i < n) ps-length l in
         ps-at i below ∙ sym (place-holds (λ i. square-of (whole w h) i .y * w + square-of (whole w h) i .x) (w * h) i below))
 
-    square-table : walked true w t (whole w h) 0 ≡ by-square w h
+    square-table : filled-with true w t (whole w h) 0 ≡ by-square w h
     unfolding by-square whole
     square-table =
         let f : ℕ → ℕ = λ p. number-of (whole w h) (square (p % w) (p / w)) in
-        let long : length (walked true w t (whole w h) 0) ≡ w * h = entered-length true t 0 (ps w h) ∙ size in
-        ext-getD 0 (walked true w t (whole w h) 0) (by-square w h) (long ∙ sym (places-length f (w * h)))
+        let long : length (filled-with true w t (whole w h) 0) ≡ w * h = enter-length true t 0 (ps w h) ∙ size in
+        ext-getD 0 (filled-with true w t (whole w h) 0) (by-square w h) (long ∙ sym (places-length f (w * h)))
         (λ p l. let below : p < w * h = subst (λ (n : ℕ). p < n) long l in
         let i = number-of (whole w h) (square (p % w) (p / w)) in
         let there = number-there p below in
@@ -167,6 +167,6 @@ module _ (w h : ℕ) (a : 1 ≤ w) (b : 1 ≤ h) where
         ∙ zero-add i
         ∙ sym (place-holds f (w * h) p below))
 
-    pub due-table : (kind : Bool) → walked kind w t (whole w h) 0 ≡ due-by kind w h
+    pub due-table : (kind : Bool) → filled-with kind w t (whole w h) 0 ≡ due-by kind w h
     due-table false = number-table
     due-table true = square-table

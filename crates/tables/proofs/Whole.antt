@@ -14,7 +14,7 @@ use Rattle.terms.proofs.Laws.{limits, refusal-some}
 use Rattle.division.specs.Division.{whole, curve, blocks-holding, count}
 use Rattle.division.proofs.Blocks.{whole-inside, at-most-54}
 use Rattle.tables.specs.Tables.{some-deep, on-table, unless-refused}
-use Rattle.leaves.specs.Walk.{Fills}
+use Rattle.leaves.specs.Walk.{Fits}
 
 none-counted : {X : Type 0} (f : X → Bool) (zs : List X) → ((z : X) → f z ≡ false) → count f zs ≡ 0
 unfolding count
@@ -54,9 +54,9 @@ pub given : (values : List ℕ) {f : Figures} (filled t : List ℕ) → f ≡ an
 unfolding unless-refused
 given values filled t e = rw (eq-eqb _ 0 (ap (λ g. g .refusal) e))
 
--- the whole area is a block that a fill can take
-pub whole-fills : (w h : ℕ) (t : List ℕ) → accepted w h ≡ true → length t ≡ w * h → Fills w h t (whole w h) 0
+-- the whole area is a block that a walk can take
+pub whole-fits : (w h : ℕ) (t : List ℕ) → accepted w h ≡ true → length t ≡ w * h → Fits w h t (whole w h) 0
 unfolding whole
-whole-fills w h t ok size =
+whole-fits w h t ok size =
     let all = limits w h ok in
     record { w-limit = all .w-most; h-limit = all .h-most; inside = whole-inside w h (all .w-least) (all .h-least); size = size; room = omega arith }

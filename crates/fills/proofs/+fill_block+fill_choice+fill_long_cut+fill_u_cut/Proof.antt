@@ -6,7 +6,7 @@ use native.Mathlib.Omega.{arith}
 use lib.ListN.{length}
 use Rattle.division.specs.Division.{blocks}
 use Rattle.division.proofs.Walks.{a-limit, b-limit}
-use Rattle.leaves.specs.Walk.{entered, walked}
+use Rattle.leaves.specs.Walk.{enter-one, filled-with}
 use Rattle.leaves.proofs.Entries.{largest}
 use Rattle.leaves.proofs.Parts.{first-call, second-call, second-number, long-over, a-call, b-call, c-call, u-deep, u-numbers, u-over, side-call, side-over}
 use Rattle.fills.proofs.Counts.{long-count, long-fits, u-count, u-fits, side-count}
@@ -167,7 +167,7 @@ fill-choice-returns-3 t c =
     let f = c .before .before .before .before .before .before .before .before .before .pre .1 in
     let is = sym (c .before .before .before .before .before .before .before .choose .ensures) ∙ c .before .before .before .before .before .enum-told2 .given .1 in
     let r = c .before .before .before .exchanged-block in (
-      c .before .before .fill-run2 .ensures .0 ∙ side-over f is (entered (c .before .before .before .before .before .before .before .before .before .args .by-square)) (c .before .before .before .before .before .before .before .before .before .args .table .now) (r .result) (r .ensures),
+      c .before .before .fill-run2 .ensures .0 ∙ side-over f is (enter-one (c .before .before .before .before .before .before .before .before .before .args .by-square)) (c .before .before .before .before .before .before .before .before .before .args .table .now) (r .result) (r .ensures),
       c .before .before .fill-run2 .ensures .1 ∙ side-count f is (r .result) (r .ensures),
     )
 
@@ -226,9 +226,9 @@ fill-long-cut-returns t c = let by-square = c .before .before .before .before .b
     let first = c .before .before .before .before .before .before .before .before .long-part .ensures in
     let second = c .before .before .before .long-part2 .ensures in (
       c .before .before .fill-block2 .ensures .0
-          ∙ ap₂ (λ t j. walked by-square w t j (c .before .before .before .before .before .before .before .before .before .before .before .before .before .args .at + c .before .before .before .before .before .before .before .before .before .before .before .even-half .result * c .before .before .before .before .before .before .before .before .before .before .before .before .before .args .k .b))
-          (c .before .before .before .before .before .before .before .fill-block .ensures .0 ∙ ap (λ j. walked by-square w (c .before .before .before .before .before .before .before .before .before .before .before .before .before .args .table .now) j (c .before .before .before .before .before .before .before .before .before .before .before .before .before .args .at)) first) second
-          ∙ long-over (c .before .before .before .before .before .before .before .before .before .before .before .before .before .pre .1 .0) (c .before .before .before .before .before .before .before .before .before .before .before .before .before .pre .1 .1) (c .before .before .before .before .before .before .before .before .before .before .before .even-half .ensures) (entered by-square) (c .before .before .before .before .before .before .before .before .before .before .before .before .before .args .table .now),
+          ∙ ap₂ (λ t j. filled-with by-square w t j (c .before .before .before .before .before .before .before .before .before .before .before .before .before .args .at + c .before .before .before .before .before .before .before .before .before .before .before .even-half .result * c .before .before .before .before .before .before .before .before .before .before .before .before .before .args .k .b))
+          (c .before .before .before .before .before .before .before .fill-block .ensures .0 ∙ ap (λ j. filled-with by-square w (c .before .before .before .before .before .before .before .before .before .before .before .before .before .args .table .now) j (c .before .before .before .before .before .before .before .before .before .before .before .before .before .args .at)) first) second
+          ∙ long-over (c .before .before .before .before .before .before .before .before .before .before .before .before .before .pre .1 .0) (c .before .before .before .before .before .before .before .before .before .before .before .before .before .pre .1 .1) (c .before .before .before .before .before .before .before .before .before .before .before .even-half .ensures) (enter-one by-square) (c .before .before .before .before .before .before .before .before .before .before .before .before .before .args .table .now),
       long-count (c .before .before .before .before .before .before .before .before .before .before .before .before .before .pre .1 .0) (c .before .before .before .before .before .before .before .before .before .before .before .before .before .pre .1 .1)
           (c .before .before .before .before .before .before .before .fill-block .ensures .1 ∙ ap (λ j. length (blocks j)) first) (c .before .before .fill-block2 .ensures .1 ∙ ap (λ j. length (blocks j)) second),
     )
@@ -300,10 +300,10 @@ fill-u-cut-returns t c = let by-square = c .before .before .before .before .befo
     let b = c .before .before .before .before .before .before .before .before .part-b .ensures in
     let d = c .before .before .before .part-c .ensures in (
       c .before .before .fill-block3 .ensures .0
-          ∙ ap₂ (λ t j. walked by-square w t j (at + e * (k .a / 2) + k .a * (k .b - e)))
+          ∙ ap₂ (λ t j. filled-with by-square w t j (at + e * (k .a / 2) + k .a * (k .b - e)))
           (c .before .before .before .before .before .before .before .fill-block2 .ensures .0
-          ∙ ap₂ (λ t j. walked by-square w t j (at + e * (k .a / 2))) (c .before .before .before .before .before .before .before .before .before .before .before .before .fill-block .ensures .0 ∙ ap (λ j. walked by-square w (c .before .before .before .before .before .before .before .before .before .before .before .before .before .before .before .before .before .before .before .before .args .table .now) j at) a) b) d
-          ∙ u-over (c .before .before .before .before .before .before .before .before .before .before .before .before .before .before .before .before .before .before .before .before .pre .1 .0) (c .before .before .before .before .before .before .before .before .before .before .before .before .before .before .before .before .before .before .before .before .pre .1 .1) (c .before .before .before .before .before .before .before .before .before .before .before .before .before .before .before .before .before .before .even-half .ensures) (entered by-square) (c .before .before .before .before .before .before .before .before .before .before .before .before .before .before .before .before .before .before .before .before .args .table .now),
+          ∙ ap₂ (λ t j. filled-with by-square w t j (at + e * (k .a / 2))) (c .before .before .before .before .before .before .before .before .before .before .before .before .fill-block .ensures .0 ∙ ap (λ j. filled-with by-square w (c .before .before .before .before .before .before .before .before .before .before .before .before .before .before .before .before .before .before .before .before .args .table .now) j at) a) b) d
+          ∙ u-over (c .before .before .before .before .before .before .before .before .before .before .before .before .before .before .before .before .before .before .before .before .pre .1 .0) (c .before .before .before .before .before .before .before .before .before .before .before .before .before .before .before .before .before .before .before .before .pre .1 .1) (c .before .before .before .before .before .before .before .before .before .before .before .before .before .before .before .before .before .before .even-half .ensures) (enter-one by-square) (c .before .before .before .before .before .before .before .before .before .before .before .before .before .before .before .before .before .before .before .before .args .table .now),
       u-count (c .before .before .before .before .before .before .before .before .before .before .before .before .before .before .before .before .before .before .before .before .pre .1 .0) (c .before .before .before .before .before .before .before .before .before .before .before .before .before .before .before .before .before .before .before .before .pre .1 .1)
           (c .before .before .before .before .before .before .before .before .before .before .before .before .fill-block .ensures .1 ∙ ap (λ j. length (blocks j)) a) (c .before .before .before .before .before .before .before .fill-block2 .ensures .1 ∙ ap (λ j. length (blocks j)) b) (c .before .before .fill-block3 .ensures .1 ∙ ap (λ j. length (blocks j)) d),
     )

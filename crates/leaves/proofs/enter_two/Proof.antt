@@ -2,7 +2,7 @@
 use borrow.Author.Needs.{needs}
 use mathlib.Core.Path.{ap, _∙_}
 use Prim.Native.Nat.{_+_}
-use Rattle.leaves.specs.Walk.{entered}
+use Rattle.leaves.specs.Walk.{enter-one}
 use Rattle.leaves.proofs.enter_two.Statement.{statement}
 use Rattle.leaves.proofs.enter_two.Tie as tie
 
@@ -19,7 +19,7 @@ same-length : tie.Need-same-length
 same-length c = search needs
 
 returns : tie.Need-returns
-returns c = c .before .before .enter2 .ensures ∙ ap (λ t. entered (c .before .before .before .before .before .before .before .before .before .args .by-square) t (c .before .before .before .before .before .before .before .before .before .args .n + 1) (c .before .before .before .before .before .before .before .before .before .args .q)) (c .before .before .before .before .before .before .enter .ensures)
+returns c = c .before .before .enter2 .ensures ∙ ap (λ t. enter-one (c .before .before .before .before .before .before .before .before .before .args .by-square) t (c .before .before .before .before .before .before .before .before .before .args .n + 1) (c .before .before .before .before .before .before .before .before .before .args .q)) (c .before .before .before .before .before .before .enter .ensures)
 
 pub enter-two-spec : {M : Type 1} → statement M
 enter-two-spec = tie.close (tie.spec enter-requires add-enter enter-requires-2 same-length returns)

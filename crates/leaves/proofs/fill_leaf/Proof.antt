@@ -2,7 +2,7 @@
 use mathlib.Core.Path.{_≡_, refl, _∙_}
 use Prim.Native.Nat.{_+_}
 use native.Mathlib.Omega.{arith}
-use Rattle.leaves.specs.Walk.{entered}
+use Rattle.leaves.specs.Walk.{enter-one}
 use Rattle.leaves.proofs.Leaves.{near-below, far-below, count-two-deep, count-three-deep, over-two-deep, over-three-deep, leaf-two, leaf-number}
 use Rattle.leaves.proofs.fill_leaf.Statement.{statement}
 use Rattle.leaves.proofs.fill_leaf.Tie as tie
@@ -47,7 +47,7 @@ returns c =
     let wide = c .before .before .before .before .before .before .before .before .before .before .before .before .pre .1 in
     let low = c .before .before .before .before .before .before .before .before .before .before .rung-at .ensures in
     let middle = c .before .before .before .before .before .before .before .before .before .rung-at2 .ensures in (
-      over-two-deep inside wide (entered (c .before .before .before .before .before .before .before .before .before .before .before .before .args .by-square)) (c .before .before .before .before .before .before .before .before .before .before .before .before .args .table .now) (c .before .before .before .before .before .before .before .before .before .before .before .before .args .at) (low .0) (middle .0) (middle .1) (low .1) (c .before .before .before .before .before .before .before .enter-two .ensures) (c .before .before .before .before .if1 .taken)
+      over-two-deep inside wide (enter-one (c .before .before .before .before .before .before .before .before .before .before .before .before .args .by-square)) (c .before .before .before .before .before .before .before .before .before .before .before .before .args .table .now) (c .before .before .before .before .before .before .before .before .before .before .before .before .args .at) (low .0) (middle .0) (middle .1) (low .1) (c .before .before .before .before .before .before .before .enter-two .ensures) (c .before .before .before .before .if1 .taken)
           (c .before .before .enter-two2 .ensures),
       count-two-deep inside wide (c .before .before .before .before .if1 .taken),
     )
@@ -96,7 +96,7 @@ returns-2 c =
     let low = c .before .before .before .before .before .before .before .before .before .before .before .before .before .before .before .rung-at .ensures in
     let middle = c .before .before .before .before .before .before .before .before .before .before .before .before .before .before .rung-at2 .ensures in
     let high = c .before .before .before .before .before .before .before .before .rung-at3 .ensures in (
-      over-three-deep inside wide (entered (c .before .before .before .before .before .before .before .before .before .before .before .before .before .before .before .before .before .args .by-square)) (c .before .before .before .before .before .before .before .before .before .before .before .before .before .before .before .before .before .args .table .now) (c .before .before .before .before .before .before .before .before .before .before .before .before .before .before .before .before .before .args .at) (low .0) (middle .0) (middle .1) (low .1) (c .before .before .before .before .before .before .before .before .before .before .before .before .enter-two .ensures) three
+      over-three-deep inside wide (enter-one (c .before .before .before .before .before .before .before .before .before .before .before .before .before .before .before .before .before .args .by-square)) (c .before .before .before .before .before .before .before .before .before .before .before .before .before .before .before .before .before .args .table .now) (c .before .before .before .before .before .before .before .before .before .before .before .before .before .before .before .before .before .args .at) (low .0) (middle .0) (middle .1) (low .1) (c .before .before .before .before .before .before .before .before .before .before .before .before .enter-two .ensures) three
           (high .0) (high .1) (c .before .before .before .before .before .before .enter-two3 .ensures) (c .before .before .enter-two4 .ensures),
       count-three-deep inside wide three,
     )

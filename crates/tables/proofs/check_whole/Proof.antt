@@ -6,8 +6,8 @@ use borrow.Author.Tests.{not-true, not-false}
 use Rattle.terms.proofs.Laws.{squares-limit}
 use Rattle.division.specs.Division.{Block}
 use Rattle.tables.specs.Tables.{check}
-use Rattle.leaves.specs.Walk.{Fills}
-use Rattle.tables.proofs.Whole.{area-refused, length-refused, whole-fills}
+use Rattle.leaves.specs.Walk.{Fits}
+use Rattle.tables.proofs.Whole.{area-refused, length-refused, whole-fits}
 use Rattle.tables.proofs.Judged.{right-is, wrong-is}
 use Rattle.tables.proofs.check_whole.Statement.{statement}
 use Rattle.tables.proofs.check_whole.Tie as tie
@@ -48,7 +48,7 @@ whole-block-requires : tie.Need-whole-block-requires
 whole-block-requires c κs = search needs
 
 check-block-requires : tie.Need-check-block-requires
-check-block-requires c κs = subst⁻¹ (λ (k : Block). Fills (c .before .before .before .before .before .args .area .w) (c .before .before .before .before .before .args .area .h) (c .before .before .before .before .before .args .table .now) k 0) (c .whole-block .ensures) (whole-fills (c .before .before .before .before .before .args .area .w) (c .before .before .before .before .before .args .area .h) (c .before .before .before .before .before .args .table .now) (sym (c .before .before .before .accepts .ensures) ∙ not-false _ (c .before .before .if1 .left)) (c .before .if2 .left))
+check-block-requires c κs = subst⁻¹ (λ (k : Block). Fits (c .before .before .before .before .before .args .area .w) (c .before .before .before .before .before .args .area .h) (c .before .before .before .before .before .args .table .now) k 0) (c .whole-block .ensures) (whole-fits (c .before .before .before .before .before .args .area .w) (c .before .before .before .before .before .args .area .h) (c .before .before .before .before .before .args .table .now) (sym (c .before .before .before .accepts .ensures) ∙ not-false _ (c .before .before .if1 .left)) (c .before .if2 .left))
 
 returns-3 : tie.Need-returns-3
 returns-3 c = right-is _ _ (sym (c .before .before .before .before .before .accepts .ensures) ∙ not-false _ (c .before .before .before .before .if1 .left)) (c .before .before .before .before .before .before .before .args .by-square) (c .before .before .before .before .before .before .before .args .table .now) (c .before .before .before .if2 .left) _ (c .before .before .whole-block .ensures) _ (c .before .check-block .ensures) (c .if3 .taken)

@@ -10,8 +10,8 @@ use Rattle.terms.specs.Terms.{answered}
 use Rattle.terms.proofs.Laws.{limits, squares-limit}
 use Rattle.division.specs.Division.{Block, whole, blocks}
 use Rattle.tables.specs.Tables.{fill}
-use Rattle.leaves.specs.Walk.{walked, Fills}
-use Rattle.tables.proofs.Whole.{area-refused, length-refused, taken, kept, given, whole-fills}
+use Rattle.leaves.specs.Walk.{filled-with, Fits}
+use Rattle.tables.proofs.Whole.{area-refused, length-refused, taken, kept, given, whole-fits}
 use Rattle.tables.proofs.Listed.{due-table}
 use Rattle.tables.proofs.fill_whole.Statement.{statement}
 use Rattle.tables.proofs.fill_whole.Tie as tie
@@ -40,7 +40,7 @@ whole-block-requires : tie.Need-whole-block-requires
 whole-block-requires c κs = search needs
 
 fill-block-requires : tie.Need-fill-block-requires
-fill-block-requires c κs = subst⁻¹ (λ (k : Block). Fills (c .before .before .before .before .before .before .args .area .w) (c .before .before .before .before .before .before .args .area .h) (c .before .before .before .before .before .before .args .table .now) k 0) (c .whole-block .ensures) (whole-fills (c .before .before .before .before .before .before .args .area .w) (c .before .before .before .before .before .before .args .area .h) (c .before .before .before .before .before .before .args .table .now) (sym (c .before .before .before .before .accepts .ensures) ∙ not-false _ (c .before .before .before .if1 .left)) (c .before .before .if2 .left))
+fill-block-requires c κs = subst⁻¹ (λ (k : Block). Fits (c .before .before .before .before .before .before .args .area .w) (c .before .before .before .before .before .before .args .area .h) (c .before .before .before .before .before .before .args .table .now) k 0) (c .whole-block .ensures) (whole-fits (c .before .before .before .before .before .before .args .area .w) (c .before .before .before .before .before .before .args .area .h) (c .before .before .before .before .before .before .args .table .now) (sym (c .before .before .before .before .accepts .ensures) ∙ not-false _ (c .before .before .before .if1 .left)) (c .before .before .if2 .left))
 
 same-length : tie.Need-same-length
 same-length c = search needs
@@ -58,7 +58,7 @@ returns-3 c =
     let is : fill w h t ≡ answered (length (blocks (whole w h)) ∷ []) = taken w h t 1 _ ok (c .before .before .before .before .before .if2 .left) in (
       ap (λ n. answered (n ∷ [])) (c .before .before .fill-block .ensures .1 ∙ ap (λ k. length (blocks k)) whole-is) ∙ sym is,
       c .before .before .fill-block .ensures .0
-          ∙ ap (λ k. walked kind w t k 0) whole-is
+          ∙ ap (λ k. filled-with kind w t k 0) whole-is
           ∙ due-table w h (all .w-least) (all .h-least) t (c .before .before .before .before .before .if2 .left) kind
           ∙ given _ _ t is,
     )
