@@ -57,26 +57,26 @@ module _ (w h : ℕ) (yes : accepted w h ≡ true) where
       unfolding whole
       word-blocks = let most = few (square-of (whole w h) number) in omega arith
 
-      word-along : word / 16777216 ≡ square-of (whole w h) number .x
+      x-of-word : word / 16777216 ≡ square-of (whole w h) number .x
       unfolding whole
-      word-along =
+      x-of-word =
           let s = square-of (whole w h) number in
           let most = few s in
           let in-height = there .side in
           let limit = lengths .h-most in
           ap (λ n. n / 16777216) e ∙ word-x (s .x) (s .y) (0 + blocks-holding (whole w h) s) (omega arith) (omega arith)
 
-      word-across : word / 256 % 65536 ≡ square-of (whole w h) number .y
+      y-of-word : word / 256 % 65536 ≡ square-of (whole w h) number .y
       unfolding whole
-      word-across =
+      y-of-word =
           let s = square-of (whole w h) number in
           let most = few s in
           let in-height = there .side in
           let limit = lengths .h-most in
           ap (λ n. n / 256 % 65536) e ∙ word-y (s .x) (s .y) (0 + blocks-holding (whole w h) s) (omega arith) (omega arith)
 
-      pub along-fits : word / 16777216 < 4294967296
-      along-fits = let x = word-along in let in-width = there .run in let limit = lengths .w-most in omega arith
+      pub x-fits : word / 16777216 < 4294967296
+      x-fits = let x = x-of-word in let in-width = there .run in let limit = lengths .w-most in omega arith
 
       pub square-deep : 64 < word % 256 → refused TooDeep 3 ≡ number-to-square w h number
       unfolding number-to-square
@@ -86,7 +86,7 @@ module _ (w h : ℕ) (yes : accepted w h ≡ true) where
       unfolding number-to-square
       square-found shallow =
           rw (yes, lt-ltb number (w * h) l, le-leb (blocks-holding (whole w h) (square-of (whole w h) number)) 64 (let n = word-blocks in omega arith))
-          (ap answered (λ i. word-along i ∷ word-across i ∷ word-blocks i ∷ []))
+          (ap answered (λ i. x-of-word i ∷ y-of-word i ∷ word-blocks i ∷ []))
 
   pub number-outside : (number : ℕ) → w * h ≤ number → refused NumberOutside 3 ≡ number-to-square w h number
   unfolding number-to-square

@@ -17,7 +17,7 @@ use Rattle.division.proofs.Sums.{total, all-right}
 use Rattle.division.proofs.Cuts.{area, long-areas}
 use Rattle.division.proofs.Once.{square-held}
 use Rattle.division.proofs.Descent.{part-inside, square-in, holding-in, straight-holding, run-square, side-square}
-use Rattle.division.proofs.Walks.{a-limit, b-limit, product-limit, u-sum, Sums, sums, run-moved, side-moved}
+use Rattle.division.proofs.Walks.{a-limit, b-limit, product-limit, u-sum, Sums-fit, sums-fit, run-moved, side-moved}
 use Rattle.descents.specs.Descents.{square-word, Enters, Descends, descent-word}
 
 enters : (k : Block) → Inside 65535 65535 k → (before : List Block) (q : Block) (after : List Block) → parts k ≡ before ++ (q ∷ after)
@@ -76,10 +76,10 @@ not-long k h la lb f = by (chosen k h)
     by (is-u e a b l) = e
 
 -- the parts of a U cut: A has the numbers below e·m, B the a·(b - e) after them, C the rest
-pub block-sums : (k : Block) → Inside 65535 65535 k → choice (k .a) (k .b) ≡ UCut → (e : ℕ) → e ≡ even-half (k .b) → Sums 0 (k .a) (k .b) e
+pub block-sums : (k : Block) → Inside 65535 65535 k → choice (k .a) (k .b) ≡ UCut → (e : ℕ) → e ≡ even-half (k .b) → Sums-fit 0 (k .a) (k .b) e
 block-sums k inside c e is =
     let all = product-limit (k .a) (k .b) (a-limit k inside) (b-limit k inside) in
-    sums 0 (k .a) (k .b) e (u-lengths k (inside .sized) c .1) is (omega arith)
+    sums-fit 0 (k .a) (k .b) e (u-lengths k (inside .sized) c .1) is (omega arith)
 
 module _ (k : Block) (i : ℕ) (inside : Inside 65535 65535 k) (l : i < area k) (c : choice (k .a) (k .b) ≡ UCut) where
   pub a-enters : i < even-half (k .b) * (k .a / 2) → Enters k i (part A k) i

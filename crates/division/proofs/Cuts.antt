@@ -31,8 +31,8 @@ areas k (in-two a b e) = rw e (long-areas (even-half (k .a)) (k .a) (k .b) (let 
 areas k (in-three a b e) = rw e (u-areas (even-half (k .b)) (k .a / 2) (k .a) (k .b) (let half = halves (k .b) b in omega arith) (omega arith))
 
 -- the parts' squares add up, as 0 or 1 along the run and along the side
-u-sum : (r r₁ r₂ s s₁ s₂ : ℕ) → r ≡ r₁ + r₂ → s ≡ s₁ + s₂ → r ≤ 1 → s ≤ 1 → min s₁ r₁ + (min r s₂ + (min s₁ r₂ + 0)) ≡ min r s
-u-sum r r₁ r₂ s s₁ s₂ e f l m = omega arith
+u-counts : (r r₁ r₂ s s₁ s₂ : ℕ) → r ≡ r₁ + r₂ → s ≡ s₁ + s₂ → r ≤ 1 → s ≤ 1 → min s₁ r₁ + (min r s₂ + (min s₁ r₂ + 0)) ≡ min r s
+u-counts r r₁ r₂ s s₁ s₂ e f l m = omega arith
 
 -- each part of a cut lies where its block lies
 module _ (w h : ℕ) (k : Block) (i : Inside w h k) where
@@ -138,7 +138,7 @@ module _ (w h : ℕ) (k : Block) (i : Inside w h k) where
       let e = even-half (k .b) in
       let m = k .a / 2 in
       simp (one-and, c-run p b, c-side p a, within-across (i .paired) e (k .a) (k .start) p)
-      (u-sum _ _ _ _ _ _ (within-cut w h (k .run) m (k .a) (k .start) p (i .run) (omega arith)) (within-cut w h (k .side) e (k .b) (k .start) p (i .side) (half .less)) (one-le (within (k .run) (k .a) (k .start) p)) (one-le (within (k .side) (k .b) (k .start) p)))
+      (u-counts _ _ _ _ _ _ (within-cut w h (k .run) m (k .a) (k .start) p (i .run) (omega arith)) (within-cut w h (k .side) e (k .b) (k .start) p (i .side) (half .less)) (one-le (within (k .run) (k .a) (k .start) p)) (one-le (within (k .side) (k .b) (k .start) p)))
 
 pub inside-parts : (w h : ℕ) (k : Block) → Inside w h k → Cut k → All (Inside w h) (parts k)
 inside-parts w h k i (in-two a b e) = subst⁻¹ (All (Inside w h)) e (first-inside w h k i a, (second-inside w h k i a, tt))

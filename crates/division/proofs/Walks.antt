@@ -188,15 +188,15 @@ pub u-sum : (a b e : ℕ) → 2 ≤ b → e ≡ even-half b → e * (a / 2) + (a
 u-sum a b e two is = let half = halves b two in u-areas e (a / 2) a b (omega arith) (omega arith)
 
 -- the sums on the way are 32-bit numbers, where `before` numbers and the block's are
-pub record Sums (before a b e : ℕ) : Type 0 where
+pub record Sums-fit (before a b e : ℕ) : Type 0 where
   pub half : e ≤ b
   pub in-a : e * (a / 2) < 4294967296
   pub in-b : a * (b - e) < 4294967296
   pub to-b : before + e * (a / 2) < 4294967296
   pub to-c : before + e * (a / 2) + a * (b - e) < 4294967296
 
-pub sums : (before a b e : ℕ) → 2 ≤ b → e ≡ even-half b → before + a * b < 4294967296 → Sums before a b e
-sums before a b e two is room =
+pub sums-fit : (before a b e : ℕ) → 2 ≤ b → e ≡ even-half b → before + a * b < 4294967296 → Sums-fit before a b e
+sums-fit before a b e two is room =
     let half = halves b two in
     let all = u-sum a b e two is in
     record { half = omega arith; in-a = omega arith; in-b = omega arith; to-b = omega arith; to-c = omega arith }

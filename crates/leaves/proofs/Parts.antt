@@ -16,7 +16,7 @@ use Rattle.division.proofs.Sums.{total, all-right}
 use Rattle.division.proofs.Cuts.{area}
 use Rattle.division.proofs.Once.{length-curve}
 use Rattle.division.proofs.Descent.{part-inside, skip-fits}
-use Rattle.division.proofs.Walks.{Sums, sums}
+use Rattle.division.proofs.Walks.{Sums-fit, sums-fit}
 use Rattle.leaves.specs.Walk.{place, over, over-block, exchanged, Fits}
 use Rattle.leaves.proofs.Entries.{over-append}
 
@@ -113,11 +113,11 @@ module _ {w h : ℕ} {t : List ℕ} {k : Block} {at : ℕ} (f : Fits w h t k at)
       call f (part A k ∷ part B k ∷ []) (part C k) [] (parts-are k UCut c) t′ same (at + e * (k .a / 2) + k .a * (k .b - e))
       (rw half (omega arith)) r there
 
-  pub u-numbers : Sums at (k .a) (k .b) e
+  pub u-numbers : Sums-fit at (k .a) (k .b) e
   u-numbers =
       let room = f .room in
       let all = mul-le-mul (f .w-limit) (f .h-limit) in
-      sums at (k .a) (k .b) e (u-deep f c) half (omega arith)
+      sums-fit at (k .a) (k .b) e (u-deep f c) half (omega arith)
 
   pub u-over : {S : Type 0} (step : S → ℕ → ℕ → S) (state : S)
       → over-block step

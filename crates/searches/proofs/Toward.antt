@@ -14,7 +14,7 @@ use Rattle.division.specs.Division.Rules.{long-lengths, u-lengths, run-length, 
 use Rattle.division.specs.Forms.{entered}
 use Rattle.division.proofs.Blocks.{whole-inside}
 use Rattle.division.proofs.Local.{Within, inner, Lies, in-first, in-second, in-a, in-b, in-c, squares-of, lies-smaller, lies-inside, lies-fits, area-run, area-side, area-cut}
-use Rattle.division.proofs.Walks.{a-limit, b-limit, Sums, sums}
+use Rattle.division.proofs.Walks.{a-limit, b-limit, Sums-fit, sums-fit}
 use Rattle.searches.specs.Searches.{number-word, spot-number, spot-blocks, Lying, Leads, Searches, search-word}
 
 sized-of : (s : Spot) {before : ℕ} → Lying s before → Sized (whole (s .a) (s .b))
@@ -78,8 +78,8 @@ pub u-two : (s : Spot) (before : ℕ) → Lying s before → choice (s .a) (s .b
 unfolding whole
 u-two s before r c = u-lengths (whole (s .a) (s .b)) (sized-of s r) c
 
-pub spot-sums : (s : Spot) (before : ℕ) → Lying s before → choice (s .a) (s .b) ≡ UCut → (e : ℕ) → e ≡ even-half (s .b) → Sums before (s .a) (s .b) e
-spot-sums s before r c e is = sums before (s .a) (s .b) e (u-two s before r c .1) is (r .room)
+pub spot-sums : (s : Spot) (before : ℕ) → Lying s before → choice (s .a) (s .b) ≡ UCut → (e : ℕ) → e ≡ even-half (s .b) → Sums-fit before (s .a) (s .b) e
+spot-sums s before r c e is = sums-fit before (s .a) (s .b) e (u-two s before r c .1) is (r .room)
 
 module _ (s : Spot) (before : ℕ) (r : Lying s before) (c : choice (s .a) (s .b) ≡ UCut) (e : ℕ) (half : e ≡ even-half (s .b)) (t : Spot) where
   pub a-leads : t ≡ entered A s → s .v < e → s .u < s .a / 2 → Leads s before t before

@@ -14,25 +14,25 @@ fn number_word(number: u32, blocks: u32) -> u64
 }
 
 // A square as a part has it, and how many numbers come before that part.
-struct Outer {
+struct Ahead {
     spot: Spot,
     before: u32,
 }
 
 // The square as the part of a long cut that holds it has it.
-fn long_at(s: Spot, before: u32) -> Outer
+fn long_at(s: Spot, before: u32) -> Ahead
     requires { ⌜ Lying s before × (choice (s .a) (s .b) ≡ LongCut) ⌝ }
     ensures { λ r. ⌜ Leads s before (r .spot) (r .before) ⌝ }
 {
     let spot = division::in_long(s);
-    Outer {
+    Ahead {
         spot: spot,
         before: before + (s.u - spot.u) * s.b,
     }
 }
 
 // The square as the part of a U cut that holds it has it.
-fn u_at(s: Spot, before: u32) -> Outer
+fn u_at(s: Spot, before: u32) -> Ahead
     requires { ⌜ Lying s before × (choice (s .a) (s .b) ≡ UCut) ⌝ }
     ensures { λ r. ⌜ Leads s before (r .spot) (r .before) ⌝ }
 {
@@ -40,20 +40,20 @@ fn u_at(s: Spot, before: u32) -> Outer
     let in_a = e * (s.a / 2);
     if e <= s.v {
         let spot = division::in_b(s);
-        return Outer {
+        return Ahead {
             spot: spot,
             before: before + in_a,
         };
     }
     if s.u < s.a / 2 {
         let spot = division::in_a(s);
-        return Outer {
+        return Ahead {
             spot: spot,
             before: before,
         };
     }
     let spot = division::in_c(s);
-    Outer {
+    Ahead {
         spot: spot,
         before: before + in_a + s.a * (s.b - e),
     }

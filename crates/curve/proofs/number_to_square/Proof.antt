@@ -3,7 +3,7 @@ use borrow.Author.Needs.{needs}
 use borrow.Author.Tests.{not-true, not-false}
 use mathlib.Core.Path.{sym, _∙_}
 use Rattle.terms.proofs.Laws.{squares-limit}
-use Rattle.curve.proofs.Answers.{descends, along-fits, square-deep, square-found, number-outside, square-limit}
+use Rattle.curve.proofs.Answers.{descends, x-fits, square-deep, square-found, number-outside, square-limit}
 use Rattle.curve.proofs.number_to_square.Statement.{statement}
 use Rattle.curve.proofs.number_to_square.Tie as tie
 
@@ -29,7 +29,7 @@ returns-3 : tie.Need-returns-3
 returns-3 c = square-deep (c .before .before .before .before .before .args .area .w) (c .before .before .before .before .before .args .area .h) (sym (c .before .before .before .before .accepts .ensures) ∙ not-false _ (c .before .before .before .if1 .left)) (c .before .before .before .before .before .args .number) (c .before .before .if2 .left) (c .before .descend .result) (c .before .descend .ensures) (c .if3 .taken)
 
 cast-t10 : tie.Need-cast-t10
-cast-t10 c = record { fits = along-fits (c .before .before .before .before .before .args .area .w) (c .before .before .before .before .before .args .area .h) (sym (c .before .before .before .before .accepts .ensures) ∙ not-false _ (c .before .before .before .if1 .left)) (c .before .before .before .before .before .args .number) (c .before .before .if2 .left) (c .before .descend .result) (c .before .descend .ensures) }
+cast-t10 c = record { fits = x-fits (c .before .before .before .before .before .args .area .w) (c .before .before .before .before .before .args .area .h) (sym (c .before .before .before .before .accepts .ensures) ∙ not-false _ (c .before .before .before .if1 .left)) (c .before .before .before .before .before .args .number) (c .before .before .if2 .left) (c .before .descend .result) (c .before .descend .ensures) }
 
 cast-t16 : tie.Need-cast-t16
 cast-t16 c = search needs
