@@ -1,4 +1,5 @@
--- What a descent asks and returns, and each step of it. It returns a word: a square and a count of blocks below 256.
+-- What a descent asks and returns, and each step of it: of a number, document 01's "A lookup goes down into the one part that holds it and skips
+-- the others by their areas." It returns a word, in which the code holds a square and a count of blocks below 256.
 use mathlib.Core.Path.{_≡_}
 use Prim.Native.Nat.{ℕ, suc, _+_, _*_, _<_}
 use Rattle.division.specs.Division.{Square, Block, square-of, blocks-holding}

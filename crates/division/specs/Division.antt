@@ -1,5 +1,6 @@
--- The division of a rectangle, and the curve through its squares: document 01, "The division of a rectangle", in that section's order
--- and words, one definition under each of its sentences. Lengths, coordinates and numbers are natural numbers.
+-- The division of a rectangle, and the curve through its squares: document 01, "The division of a rectangle" and, for squares and numbers,
+-- "What is bought", in the first one's order and in their words, one definition under each sentence. Lengths, coordinates and numbers are natural
+-- numbers.
 use mathlib.Core.Bool.{Bool, true, false, _&&_, cond}
 use mathlib.Core.List.{List, [], _∷_, map, flatten}
 use Prim.Native.Nat.{ℕ, zero, suc, _+_, _-_, _*_, _/_, _%_}
@@ -66,13 +67,14 @@ parts-of StraightSide = []
 parts-of LongCut = First ∷ Second ∷ []
 parts-of UCut = A ∷ B ∷ C ∷ []
 
--- The parts of the U cut: "Let e = the even half of b, and m = a div 2 (never made even)."
+-- Each part of a block that is cut.
 unfoldable pub part : Part → Block → Block
 -- "First: same start, same directions, run = even half of a, side b."
 part First k = record { start = k .start; run = k .run; a = even-half (k .a); side = k .side; b = k .b }
 -- "Second: start moved on by the even half of a, run = the rest of a, side b."
 part Second k =
     record { start = moved (k .run) (even-half (k .a)) (k .start); run = k .run; a = k .a - even-half (k .a); side = k .side; b = k .b }
+-- "U cut .. Let e = the even half of b, and m = a div 2 (never made even)."
 -- "A: same start, runs in the block's side direction for e, its side is the block's run direction for m."
 part A k = record { start = k .start; run = k .side; a = even-half (k .b); side = k .run; b = k .a / 2 }
 -- "B: start moved e in the side direction, same directions, run a, side b - e."
@@ -108,7 +110,7 @@ curve-by LongCut k curves = flatten curves
 curve-by UCut k curves = flatten curves
 
 -- What `of` makes of a block from what it makes of the block's parts in order, n cuts deep at most. With each cut the sum of the lengths falls,
--- so that a + b cuts are deep enough; the rules without n are in Division/Rules.antt.
+-- so that a + b cuts are deep enough.
 down : {R : Type 0} → (Block → List R → R) → ℕ → Block → R
 down of zero k = of k []
 down of (suc n) k = of k (map (down of n) (parts k))

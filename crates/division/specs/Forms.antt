@@ -1,4 +1,5 @@
--- The two forms in which the code holds a block of the division, read as what the division says.
+-- The two forms in which the code holds a block of the division, read as what the division says: a block at its place, and a block's lengths with
+-- one of its squares. They render no sentence of document 01.
 use mathlib.Core.Bool.{Bool, true, false, not, cond}
 use Prim.Native.Nat.{ℕ, _+_, _-_, _/_, _≤_}
 use Rattle.division.specs.declared.Placed.{Placed}

@@ -1,4 +1,5 @@
 -- What the walks that fill and check a table ask and leave: for each square of a block, in the curve's order, an entry stored or a place looked at.
+-- For one block, the fills and the check of document 01, "What a lookup and a table say".
 use mathlib.Core.Bool.{Bool, cond}
 use mathlib.Core.List.{List, [], _∷_, map}
 use mathlib.Core.Path.{_≡_}

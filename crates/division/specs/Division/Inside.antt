@@ -1,4 +1,5 @@
 -- Blocks that lie within an area: with both lengths at least 1, one of the four pairs of directions that occur, and room for run and side.
+-- What a walk asks of its block; it renders no sentence of document 01.
 use Prim.Native.Nat.{ℕ, _+_, _≤_, _<_}
 use Rattle.division.specs.Division.{Square, Direction, +x, +y, -x, -y, Block}
 
