@@ -1,4 +1,5 @@
--- A cut's parts make up the block and share no square, and lie within whatever area the block lies in.
+-- A cut's parts make up the block and share no square, and lie within whatever area the block lies in. Each square counts 0 or 1 along the run and
+-- along the side, and the parts' counts add up to the block's; C is walked from its other end.
 use mathlib.Core.Path.{_≡_, sym, ap, subst⁻¹, _∙_}
 use Prim.Native.Nat.{ℕ, _+_, _-_, _*_, _/_, _≤_, min}
 use native.Mathlib.Nat.{add-zero, mul-add, add-mul, mul-comm}
@@ -12,7 +13,7 @@ use Rattle.division.proofs.Sums.{total}
 abbrev pub area : Block → ℕ
 area k = k .a * k .b
 
--- a length and the rest of it
+-- the parts' areas add up to the block's
 pub long-areas : (e a b : ℕ) → e ≤ a → e * b + ((a - e) * b + 0) ≡ a * b
 long-areas e a b l =
     let s : (e + (a - e)) * b ≡ e * b + (a - e) * b = add-mul e (a - e) b in

@@ -1,4 +1,5 @@
--- The two kinds of table as lists, place by place: what is entered for a whole area is what the lookups' definitions say.
+-- The two kinds of table as lists, place by place: what is entered for a whole area is what the lookups' definitions say. By number each entry
+-- lengthens the list of what is right; by square each place has exactly one number.
 use mathlib.Core.Bool.{Bool, true, false, cond}
 use mathlib.Core.List.{List, [], _∷_, _++_, map, append-assoc, append-nil}
 use mathlib.Core.Logic.{⊎-elim}

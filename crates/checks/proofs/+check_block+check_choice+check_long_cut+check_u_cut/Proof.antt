@@ -1,5 +1,6 @@
 -- `checks::check_block`, `check_choice`, `check_long_cut` and `check_u_cut` meet their contracts, by the laws of `Parts`: the parts' looks in order are the block's.
--- The measure is three times the block's area, one more for `check_choice` and two for `check_block`, which hand the block itself on.
+-- The measure is three times the block's area plus 0 for a cut, 1 for `check_choice` and 2 for `check_block`, since block, choice and cut are three calls
+-- on one block.
 use mathlib.Core.Path.{refl, sym, ap, ap₂, subst, _∙_}
 use Prim.Native.Nat.{ℕ, _+_, _-_, _*_, _/_, _<_}
 use native.Mathlib.Omega.{arith}

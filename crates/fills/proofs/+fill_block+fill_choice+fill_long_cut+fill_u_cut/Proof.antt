@@ -1,5 +1,6 @@
 -- `fills::fill_block`, `fill_choice`, `fill_long_cut` and `fill_u_cut` meet their contracts, by the laws of `Parts` and `Counts`: the parts' entries in order are the block's.
--- The measure is three times the block's area, one more for `fill_choice` and two for `fill_block`, which hand the block itself on.
+-- The measure is three times the block's area plus 0 for a cut, 1 for `fill_choice` and 2 for `fill_block`, since block, choice and cut are three calls
+-- on one block.
 use mathlib.Core.Path.{sym, ap, ap₂, subst, _∙_}
 use Prim.Native.Nat.{ℕ, _+_, _-_, _*_, _/_, _<_}
 use native.Mathlib.Omega.{arith}

@@ -1,4 +1,5 @@
--- `leaves::compare` meets its contract: the place is n or p, and either is in the table.
+-- `leaves::compare` meets its contract: the place is n or p, and either is in the table. A right value leaves the least wrong place, and a wrong
+-- one may lower it.
 use borrow.Author.Needs.{needs}
 use mathlib.Core.Path.{subst⁻¹}
 use Prim.Native.Nat.{ℕ, _<_}
