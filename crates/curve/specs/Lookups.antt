@@ -11,7 +11,7 @@ use Rattle.curve.specs.declared.NumberAnswer as NumberAnswers
 use Rattle.curve.specs.declared.FinishAnswer as FinishAnswers
 
 -- "9: a descent would open a 65th block, that is, over 64 blocks of the division hold one and the same square that the call needs". The figures
--- of an answer to which n blocks lead, else that refusal in place of as many values.
+-- of an answer whose square n blocks hold, else that refusal with as many values 0.
 abbrev pub unless-deep : (n : ℕ) → List ℕ → (values : ℕ) → Figures
 unless-deep n answer values = cond (leb n 64) (answered answer) (refused TooDeep values)
 
@@ -33,7 +33,7 @@ square-to-number w h x y =
     (cond (ltb x w && ltb y h) (unless-deep n (number-of (whole w h) (square x y) ∷ n ∷ []) 2) (refused SquareOutside 2))
     (refused AreaLimit 2)
 
--- "finish square: (w - 1, 0), after document 002, section 3.2; none"
+-- "finish square: (w - 1, 0), after document 002, section 3.2; none". It needs no descent, so that 9 is not one of its refusals.
 unfoldable pub finish-square : (w h : ℕ) → Figures
 finish-square w h = cond (accepted w h) (answered ((w - 1) ∷ 0 ∷ [])) (refused AreaLimit 2)
 

@@ -72,7 +72,7 @@ pub fn square_to_number(area: Area, x: u32, y: u32) -> NumberAnswer
     }
 }
 
-// The square where the curve of an area ends.
+// The finish square (w - 1, 0), as document 01 fixes it; the curve need not end there.
 pub fn finish_square(area: Area) -> FinishAnswer
     ensures { λ r. ⌜ finish-figures r ≡ finish-square (area .w) (area .h) ⌝ }
 {
