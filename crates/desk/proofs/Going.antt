@@ -15,7 +15,7 @@ use Rattle.desk.proofs.Feeding.{still-ordered, fed-byte, kept-length}
 in-order-is : (d : Desk) (kept : List ℕ) → d .begun ≤ 65 → 65 ≤ length kept → in-order d kept ≡ true
 in-order-is d kept l m = rw (le-leb (d .begun) 65 l, le-leb 65 (length kept) m) refl
 
-fed-ordered : (d : Desk) (kept : List ℕ) (at size : ℕ) (bytes : List ℕ) → d .begun ≤ 65 → 65 ≤ length kept
+pub fed-ordered : (d : Desk) (kept : List ℕ) (at size : ℕ) (bytes : List ℕ) → d .begun ≤ 65 → 65 ≤ length kept
     → in-order (fed d kept at size bytes .desk) (fed d kept at size bytes .kept) ≡ true
 unfolding fed
 fed-ordered d kept at size [] l m = in-order-is d kept l m

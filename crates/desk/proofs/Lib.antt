@@ -1,5 +1,5 @@
 pub mod Bytes
 pub mod Feeding
-pub mod Stream
 pub mod Going
+pub mod Stream
 pub mod Promises

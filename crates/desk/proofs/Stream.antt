@@ -2,7 +2,6 @@
 -- input is what the byte prints and what is due behind it.
 use mathlib.Core.Bool.{Bool, true, false, cond}
 use mathlib.Core.List.{List, [], _∷_, _++_, append-assoc, append-nil}
-use mathlib.Core.Logic.{_⊎_, inl, inr}
 use mathlib.Core.Path.{_≡_, refl, sym, ap, ap₂, _∙_}
 use Prim.Native.Nat.{ℕ, suc, _+_, _≤_, _<_}
 use native.Mathlib.Omega.{arith}
@@ -20,7 +19,8 @@ use Rattle.desk.specs.Desk.{lines-of, answers, output}
 use Rattle.desk.specs.Steps.{begun-line, at-first, stopped, answered, next-desk, next-kept, prints, prints-last, Result, still, onward, fed}
 use Rattle.desk.specs.Runs.{Printed, ended, closed, piece-fed}
 use Rattle.desk.proofs.Feeding.{still-ordered, kept-length}
-use Rattle.desk.proofs.Bytes.{when-over, at-the-stop, at-a-newline, at-a-byte}
+use Rattle.desk.proofs.Going.{fed-ordered}
+use Rattle.desk.proofs.Bytes.{ordered, when-over, at-the-stop, at-a-newline, at-a-byte}
 
 -- lines of which the first was begun before
 joined : List ℕ → List (List ℕ) → List (List ℕ)
@@ -137,99 +137,65 @@ module _ (d : Desk) (kept : List ℕ) (b : ℕ) (rest : List ℕ) (few : d .begu
       by true o = byte-over o
       by false o = in-line o (ltb 65535 (d .line)) refl (eqb b 10) refl
 
--- a desk with a line in hand: it has its place, and it is none past the last
-record In-hand (d : Desk) (kept : List ℕ) : Type 0 where
-  few : d .begun ≤ 65
-  room : 65 ≤ length kept
-  lined : (d .begun ≡ 0) ⊎ (d .line ≤ 65535)
-
-lined-by : (d : Desk) (kept : List ℕ) (o s e f : Bool) → ltb 65535 (d .line) ≡ s → (d .begun ≡ 0) ⊎ (d .line ≤ 65535)
-    → let n = cond o d (cond s (stopped d) (cond e (answered d kept) (cond f d (record { clerk = d .clerk; line = d .line; begun = d .begun + 1; over = false })))) in
-    (n .begun ≡ 0) ⊎ (n .line ≤ 65535)
-lined-by d kept true s e f p l = l
-lined-by d kept false true e f p l = l
-lined-by d kept false false true f p l = inl refl
-lined-by d kept false false false true p l = l
-lined-by d kept false false false false p l = inr (ltb-false 65535 (d .line) p)
-
-in-hand-on : (d : Desk) (kept : List ℕ) (b : ℕ) → In-hand d kept → In-hand (next-desk d kept b) (next-kept d kept b)
-in-hand-on d kept b h =
-    record {
-      few = still-ordered d kept b (h .few);
-      room = let same = kept-length d kept b (d .over) (ltb 65535 (d .line)) (eqb b 10) (ltb 64 (d .begun)) in let all = h .room in omega arith;
-      lined = lined-by d kept (d .over) (ltb 65535 (d .line)) (eqb b 10) (ltb 64 (d .begun)) refl (h .lined);
-    }
-
 -- a piece: what is due is what it printed and what is due of what it left
 abbrev Left : Result → (d : Desk) (kept piece rest : List ℕ) → Type 0
-Left r d kept piece rest = (pending d kept (piece ++ rest) ≡ r .printed ++ pending (r .desk) (r .kept) (drop (r .taken) piece ++ rest)) × In-hand (r .desk) (r .kept)
+Left r d kept piece rest = pending d kept (piece ++ rest) ≡ r .printed ++ pending (r .desk) (r .kept) (drop (r .taken) piece ++ rest)
 
-piece-due : (d : Desk) (kept : List ℕ) (at size : ℕ) (piece rest : List ℕ) → In-hand d kept → Left (fed d kept at size piece) d kept piece rest
+piece-due : (d : Desk) (kept : List ℕ) (at size : ℕ) (piece rest : List ℕ) → d .begun ≤ 65 → 65 ≤ length kept → Left (fed d kept at size piece) d kept piece rest
 unfolding fed
-piece-due d kept at size [] rest h = (refl, h)
-piece-due d kept at size (b ∷ bs) rest h =
-    by (leb (at + 71) size) (piece-due (next-desk d kept b) (next-kept d kept b) (at + length (prints d kept b)) size bs rest (in-hand-on d kept b h))
+piece-due d kept at size [] rest few room = refl
+piece-due d kept at size (b ∷ bs) rest few room =
+    by (leb (at + 71) size)
+    (piece-due (next-desk d kept b) (next-kept d kept b) (at + length (prints d kept b)) size bs rest (still-ordered d kept b few)
+    (let same = kept-length d kept b (d .over) (ltb 65535 (d .line)) (eqb b 10) (ltb 64 (d .begun)) in omega arith))
   where
     by : (t : Bool) → Left (fed (next-desk d kept b) (next-kept d kept b) (at + length (prints d kept b)) size bs) (next-desk d kept b) (next-kept d kept b) bs rest
         → Left (cond t (onward (prints d kept b) (fed (next-desk d kept b) (next-kept d kept b) (at + length (prints d kept b)) size bs)) (still d kept)) d kept (b ∷ bs) rest
-    by false next = (refl, h)
+    by false next = refl
     by true next =
         let r = fed (next-desk d kept b) (next-kept d kept b) (at + length (prints d kept b)) size bs in
-        (byte-due d kept b (bs ++ rest) (h .few) (h .room) ∙ ap (λ zs. prints d kept b ++ zs) (next .0) ∙ sym (append-assoc (prints d kept b) (r .printed) (pending (r .desk) (r .kept) (drop (r .taken) bs ++ rest))), next .1)
+        byte-due d kept b (bs ++ rest) few room
+        ∙ ap (λ zs. prints d kept b ++ zs) next
+        ∙ sym (append-assoc (prints d kept b) (r .printed) (pending (r .desk) (r .kept) (drop (r .taken) bs ++ rest)))
 
--- the end of the input
-nothing-begun : (d : Desk) (kept : List ℕ) → d .begun ≡ 0 → pending d kept [] ≡ prints-last d kept
-unfolding lines-of joined answers
-nothing-begun d kept e = by (d .over)
-  where
-    by : (t : Bool) → cond t [] (answers (d .clerk) (d .line) (joined (begun-line d kept) (lines-of []))) ≡ cond t [] (cond (eqb (d .begun) 0) [] (text (d .line) (reply (d .clerk) (begun-line d kept))))
-    by true = refl
-    by false = rw e refl
-
-one-line : (clerk : Clerk) (n : ℕ) (g : List ℕ) → 1 ≤ length g → n ≤ 65535 → answers clerk n (joined g []) ≡ text n (reply clerk g)
+-- the end of the input: a line that is begun, by its number
+one-line : (clerk : Clerk) (n : ℕ) (g : List ℕ) → 1 ≤ length g → answers clerk n (joined g []) ≡ cond (ltb 65535 n) (stop n) (text n (reply clerk g))
 unfolding answers joined
-one-line clerk n [] l m = absurd (omega arith)
-one-line clerk n (x ∷ g) l m = rw (le-leb n 65535 m) (append-nil (text n (reply clerk (x ∷ g))))
-
-line-begun : (d : Desk) (kept : List ℕ) → In-hand d kept → d .line ≤ 65535 → (t : Bool) → eqb (d .begun) 0 ≡ t → pending d kept [] ≡ prints-last d kept
-unfolding lines-of
-line-begun d kept h l true e = nothing-begun d kept (eqb-true (d .begun) 0 e)
-line-begun d kept h l false e = by (d .over)
+one-line clerk n [] l = absurd (omega arith)
+one-line clerk n (x ∷ g) l = by (ltb 65535 n) refl
   where
-    some : 1 ≤ length (begun-line d kept)
-    some =
-        let few = h .few in
-        let room = h .room in
-        let size = length-take-le (d .begun) kept (omega arith) in
-        let not-none = eqb-false (d .begun) 0 e in
-        by-size (d .begun) (length (begun-line d kept)) size not-none
+    by : (t : Bool) → ltb 65535 n ≡ t → answers clerk n ((x ∷ g) ∷ []) ≡ cond t (stop n) (text n (reply clerk (x ∷ g)))
+    by true e = past-last clerk n (x ∷ g) [] (ltb-true 65535 n e)
+    by false e = rw (le-leb n 65535 (ltb-false 65535 n e)) (append-nil (text n (reply clerk (x ∷ g))))
+
+last-due : (d : Desk) (kept : List ℕ) → d .begun ≤ 65 → 65 ≤ length kept → pending d kept [] ≡ prints-last d kept
+unfolding lines-of joined answers
+last-due d kept few room = ap (cond (d .over) []) (by (eqb (d .begun) 0) refl)
+  where
+    some : (d .begun ≡ 0 → ⊥) → 1 ≤ length (begun-line d kept)
+    some not-none = by-size (d .begun) (length (begun-line d kept)) (length-take-le (d .begun) kept (omega arith)) not-none
       where
         by-size : (n m : ℕ) → m ≡ n → (n ≡ 0 → ⊥) → 1 ≤ m
         by-size n m p q = omega arith
 
-    by : (t : Bool) → cond t [] (answers (d .clerk) (d .line) (joined (begun-line d kept) (lines-of []))) ≡ cond t [] (cond (eqb (d .begun) 0) [] (text (d .line) (reply (d .clerk) (begun-line d kept))))
-    by true = refl
-    by false = one-line (d .clerk) (d .line) (begun-line d kept) some l ∙ sym (rw e)
-
-last-due : (d : Desk) (kept : List ℕ) → In-hand d kept → pending d kept [] ≡ prints-last d kept
-last-due d kept h = by (h .lined)
-  where
-    by : (d .begun ≡ 0) ⊎ (d .line ≤ 65535) → pending d kept [] ≡ prints-last d kept
-    by (inl e) = nothing-begun d kept e
-    by (inr l) = line-begun d kept h l (eqb (d .begun) 0) refl
+    by : (t : Bool) → eqb (d .begun) 0 ≡ t
+        → answers (d .clerk) (d .line) (joined (begun-line d kept) [])
+        ≡ cond t [] (cond (ltb 65535 (d .line)) (stop (d .line)) (text (d .line) (reply (d .clerk) (begun-line d kept))))
+    by true e = rw (eqb-true (d .begun) 0 e) refl
+    by false e = one-line (d .clerk) (d .line) (begun-line d kept) (some (eqb-false (d .begun) 0 e))
 
 -- However an input comes, what is printed is what is due of it.
-printed-due : {d : Desk} {kept input printed : List ℕ} → Printed d kept input printed → In-hand d kept → printed ≡ pending d kept input
-printed-due (ended d kept) h = sym (last-due d kept h)
-printed-due (closed d kept input o) h = sym (rw o)
-printed-due (piece-fed d kept at size piece rest printed run) h =
-    let left = piece-due d kept at size piece rest h in
-    ap (λ zs. fed d kept at size piece .printed ++ zs) (printed-due run (left .1)) ∙ sym (left .0)
+printed-due : {d : Desk} {kept input printed : List ℕ} → Printed d kept input printed → d .begun ≤ 65 → 65 ≤ length kept → printed ≡ pending d kept input
+printed-due (ended d kept) few room = sym (last-due d kept few room)
+printed-due (closed d kept input o) few room = sym (rw o)
+printed-due (piece-fed d kept at size piece rest printed run) few room =
+    let both = ordered (fed d kept at size piece .desk) (fed d kept at size piece .kept) (fed-ordered d kept at size piece few room) in
+    ap (λ zs. fed d kept at size piece .printed ++ zs) (printed-due run (both .0) (both .1)) ∙ sym (piece-due d kept at size piece rest few room)
 
 -- From the first byte on it is what the definition over the whole input says, so it does not depend on how the input was cut.
 pub whole-printed : {kept input printed : List ℕ} → 65 ≤ length kept → Printed at-first kept input printed → printed ≡ output input
 unfolding output joined
-whole-printed room run = printed-due run (record { few = omega arith; room = room; lined = inl refl })
+whole-printed room run = printed-due run (omega arith) room
 
 pub however-cut : {kept kept′ input one other : List ℕ} → 65 ≤ length kept → 65 ≤ length kept′ → Printed at-first kept input one → Printed at-first kept′ input other → one ≡ other
 however-cut room room′ run run′ = whole-printed room run ∙ sym (whole-printed room′ run′)

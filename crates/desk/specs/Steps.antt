@@ -42,9 +42,10 @@ abbrev pub prints : Desk → (kept : List ℕ) → (b : ℕ) → List ℕ
 prints d kept b =
     cond (d .over) [] (cond (ltb 65535 (d .line)) (stop (d .line)) (cond (eqb b 10) (text (d .line) (reply (d .clerk) (begun-line d kept))) []))
 
--- What is printed at the end of the input.
+-- What is printed at the end of the input: for a line that is begun its reply, or STOP for a line 65,536.
 abbrev pub prints-last : Desk → (kept : List ℕ) → List ℕ
-prints-last d kept = cond (d .over) [] (cond (eqb (d .begun) 0) [] (text (d .line) (reply (d .clerk) (begun-line d kept))))
+prints-last d kept =
+    cond (d .over) [] (cond (eqb (d .begun) 0) [] (cond (ltb 65535 (d .line)) (stop (d .line)) (text (d .line) (reply (d .clerk) (begun-line d kept)))))
 
 -- The bytes of a piece one by one, as long as there is room for the longest text in an output of that size.
 pub record Result : Type 0 where

@@ -194,7 +194,7 @@ pub fn feed(
     }
 }
 
-// Answers the line that is begun, at the end of the input.
+// Answers the line that is begun, at the end of the input, or says STOP for a line 65,536.
 pub fn finish(desk: Desk, kept: &[u8], out: &mut [u8], at: usize) -> usize
     ensures { λ r. ⌜ Writes (now (out .entry)) at (cond (in-order desk (now (kept .entry))) (if-room (now (out .entry)) at (prints-last desk (now (kept .entry)))) []) (now (out .exit)) r × (r ≤ at + 71) ⌝ }
 {
@@ -207,6 +207,9 @@ pub fn finish(desk: Desk, kept: &[u8], out: &mut [u8], at: usize) -> usize
     if desk.begun == 0 {
         return at;
     }
-    let told = tell(desk, kept, out, at);
-    told.at
+    if desk.line <= 65535 {
+        let told = tell(desk, kept, out, at);
+        return told.at;
+    }
+    replies::write_stop(out, at, desk.line)
 }
