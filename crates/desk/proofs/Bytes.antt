@@ -1,7 +1,7 @@
 -- What is written where nothing is printed, and the tests of a desk.
 use mathlib.Core.Bool.{Bool, true, false, cond, and-eq-true-iff}
 use mathlib.Core.List.{List, []}
-use mathlib.Core.Path.{_≡_, sym, subst}
+use mathlib.Core.Path.{_≡_, refl, sym, subst}
 use Prim.Native.Nat.{ℕ, _+_, _≤_, _<_}
 use borrow.Author.Tests.{leb-true, le-leb, lt-ltb, le-ltb, eq-eqb, ne-eqb}
 use lib.Dec.{leb}
@@ -26,6 +26,9 @@ pub ordered : (d : Desk) (kept : List ℕ) → in-order d kept ≡ true → (d .
 ordered d kept e =
     let both = and-eq-true-iff (leb (d .begun) 65) (leb 65 (length kept)) .0 e in
     (leb-true (d .begun) 65 (both .0), leb-true 65 (length kept) (both .1))
+
+pub in-order-is : (d : Desk) (kept : List ℕ) → d .begun ≤ 65 → 65 ≤ length kept → in-order d kept ≡ true
+in-order-is d kept few room = rw (le-leb (d .begun) 65 few, le-leb 65 (length kept) room) refl
 
 -- a byte, case by case
 module _ (d : Desk) (kept : List ℕ) (b : ℕ) where

@@ -9,13 +9,10 @@ use lib.Dec.{leb, ltb, eqb}
 use lib.ListN.{length, drop}
 use Rattle.desk.specs.declared.Desk.{Desk}
 use Rattle.desk.specs.Steps.{next-desk, next-kept, prints, Result, still, onward, fed, in-order, fed-any, Feeds}
-use Rattle.desk.proofs.Bytes.{ordered}
+use Rattle.desk.proofs.Bytes.{ordered, in-order-is}
 use Rattle.desk.proofs.Feeding.{still-ordered, fed-byte, kept-length}
 
-in-order-is : (d : Desk) (kept : List ℕ) → d .begun ≤ 65 → 65 ≤ length kept → in-order d kept ≡ true
-in-order-is d kept l m = rw (le-leb (d .begun) 65 l, le-leb 65 (length kept) m) refl
-
-pub fed-ordered : (d : Desk) (kept : List ℕ) (at size : ℕ) (bytes : List ℕ) → d .begun ≤ 65 → 65 ≤ length kept
+fed-ordered : (d : Desk) (kept : List ℕ) (at size : ℕ) (bytes : List ℕ) → d .begun ≤ 65 → 65 ≤ length kept
     → in-order (fed d kept at size bytes .desk) (fed d kept at size bytes .kept) ≡ true
 unfolding fed
 fed-ordered d kept at size [] l m = in-order-is d kept l m
@@ -29,18 +26,22 @@ fed-ordered d kept at size (b ∷ bs) l m =
     by true next = next
     by false next = in-order-is d kept l m
 
+-- to a desk that is in order a piece is fed
+pub is-fed : (d : Desk) (kept : List ℕ) → in-order d kept ≡ true → (at size : ℕ) (bytes : List ℕ) → fed-any d kept at size bytes ≡ fed d kept at size bytes
+is-fed d kept ok at size bytes = rw ok refl
+
+pub fed-in-order : (d : Desk) (kept : List ℕ) → in-order d kept ≡ true → (at size : ℕ) (bytes : List ℕ)
+    → in-order (fed-any d kept at size bytes .desk) (fed-any d kept at size bytes .kept) ≡ true
+fed-in-order d kept ok at size bytes =
+    let both = ordered d kept ok in
+    ap (λ (r : Result). in-order (r .desk) (r .kept)) (is-fed d kept ok at size bytes) ∙ fed-ordered d kept at size bytes (both .0) (both .1)
+
 module _ (d : Desk) (kept : List ℕ) (ok : in-order d kept ≡ true) (at size from : ℕ) (chunk : List ℕ) {out : List ℕ} {d′ : Desk} {kept′ : List ℕ} {next : ℕ} {written : List ℕ} {end : ℕ}
     (f : Feeds (fed-any d kept at size (drop from chunk)) from out at d′ kept′ next written end) where
-  is-fed : fed-any d kept at size (drop from chunk) ≡ fed d kept at size (drop from chunk)
-  is-fed = rw ok
-
   pub stays-in-order : in-order d′ kept′ ≡ true
-  stays-in-order =
-      let both = ordered d kept ok in
-      ap₂ in-order (f .desk-is ∙ ap (λ (r : Result). r .desk) is-fed) (f .kept-is ∙ ap (λ (r : Result). r .kept) is-fed)
-      ∙ fed-ordered d kept at size (drop from chunk) (both .0) (both .1)
+  stays-in-order = ap₂ in-order (f .desk-is) (f .kept-is) ∙ fed-in-order d kept ok at size (drop from chunk)
 
   pub goes-on : at + 71 ≤ size → from < length chunk → from < next
   goes-on room l =
-      let taken = f .next-is ∙ ap (λ (r : Result). from + r .taken) (is-fed ∙ fed-byte d kept at size chunk from l (le-leb (at + 71) size room)) in
+      let taken = f .next-is ∙ ap (λ (r : Result). from + r .taken) (is-fed d kept ok at size (drop from chunk) ∙ fed-byte d kept at size chunk from l (le-leb (at + 71) size room)) in
       omega arith

@@ -2,4 +2,5 @@ pub mod Bytes
 pub mod Feeding
 pub mod Going
 pub mod Stream
+pub mod Attached
 pub mod Promises

@@ -1,6 +1,6 @@
 -- What the desk's promises come to: two results that meet one are one, and a reader that repeats its first answer is turned away, as are wrong programs
 -- for the small functions.
-use mathlib.Core.Bool.{Bool, true, false, cond}
+use mathlib.Core.Bool.{Bool, true, false}
 use mathlib.Core.List.{List, [], _∷_, _++_}
 use mathlib.Core.Path.{_≡_, sym, ap, _∙_}
 use Prim.Native.Nat.{ℕ, _+_, _≤_}
@@ -12,7 +12,7 @@ use Rattle.clerk.specs.Clerk.{Said, after, reply}
 use Rattle.replies.specs.Text.{decimal-by, decimal, text, Writes, if-room}
 use Rattle.desk.specs.declared.Desk.{Desk}
 use Rattle.desk.specs.Desk.{lines-of, answers, output}
-use Rattle.desk.specs.Steps.{at-first, stopped, prints-last, in-order, Result, Feeds}
+use Rattle.desk.specs.Steps.{at-first, stopped, prints-last-any, Result, Feeds}
 
 -- Two results of feeding that meet the promise are one.
 module _ {f : Result} {from : ℕ} {out : List ℕ} {at : ℕ} {d d′ : Desk} {kept kept′ : List ℕ} {next next′ : ℕ} {written written′ : List ℕ} {end end′ : ℕ}
@@ -61,7 +61,7 @@ begins-anew promise = let other : _≡_ {A = ℕ} 0 1 = ap (λ (d : Desk). bit (
 
 -- Turned away, of `finish`: one that writes nothing, and one that takes an empty line for begun.
 abbrev last-of : Desk → List ℕ
-last-of d = cond (in-order d (replicate 65 0)) (if-room (replicate 71 0) 0 (prints-last d (replicate 65 0))) []
+last-of d = if-room (replicate 71 0) 0 (prints-last-any d (replicate 65 0))
 
 abbrev with-begun : ℕ → Desk
 with-begun n = record { clerk = NoArea; line = 1; begun = n; over = false }

@@ -2,7 +2,7 @@
 -- input is what the byte prints and what is due behind it.
 use mathlib.Core.Bool.{Bool, true, false, cond}
 use mathlib.Core.List.{List, [], _∷_, _++_, append-assoc, append-nil}
-use mathlib.Core.Path.{_≡_, refl, sym, ap, ap₂, _∙_}
+use mathlib.Core.Path.{_≡_, refl, sym, ap, ap₂, subst, _∙_}
 use Prim.Native.Nat.{ℕ, suc, _+_, _≤_, _<_}
 use native.Mathlib.Omega.{arith}
 use borrow.Author.Tests.{ltb-true, ltb-false, le-leb, lt-leb, eqb-true, eqb-false, eq-eqb, ne-eqb}
@@ -16,11 +16,11 @@ use Rattle.clerk.proofs.Promises.{reply-kept, after-kept}
 use Rattle.replies.specs.Text.{text, stop}
 use Rattle.desk.specs.declared.Desk.{Desk}
 use Rattle.desk.specs.Desk.{lines-of, answers, output}
-use Rattle.desk.specs.Steps.{begun-line, at-first, stopped, answered, next-desk, next-kept, prints, prints-last, Result, still, onward, fed}
+use Rattle.desk.specs.Steps.{begun-line, at-first, stopped, answered, next-desk, next-kept, prints, prints-last, Result, still, onward, fed, in-order, fed-any}
 use Rattle.desk.specs.Runs.{Printed, ended, closed, piece-fed}
 use Rattle.desk.proofs.Feeding.{still-ordered, kept-length}
-use Rattle.desk.proofs.Going.{fed-ordered}
-use Rattle.desk.proofs.Bytes.{ordered, when-over, at-the-stop, at-a-newline, at-a-byte}
+use Rattle.desk.proofs.Going.{is-fed, fed-in-order}
+use Rattle.desk.proofs.Bytes.{ordered, in-order-is, when-over, at-the-stop, at-a-newline, at-a-byte}
 
 -- lines of which the first was begun before
 joined : List ℕ → List (List ℕ) → List (List ℕ)
@@ -185,17 +185,19 @@ last-due d kept few room = ap (cond (d .over) []) (by (eqb (d .begun) 0) refl)
     by false e = one-line (d .clerk) (d .line) (begun-line d kept) (some (eqb-false (d .begun) 0 e))
 
 -- However an input comes, what is printed is what is due of it.
-printed-due : {d : Desk} {kept input printed : List ℕ} → Printed d kept input printed → d .begun ≤ 65 → 65 ≤ length kept → printed ≡ pending d kept input
-printed-due (ended d kept) few room = sym (last-due d kept few room)
-printed-due (closed d kept input o) few room = sym (rw o)
-printed-due (piece-fed d kept at size piece rest printed run) few room =
-    let both = ordered (fed d kept at size piece .desk) (fed d kept at size piece .kept) (fed-ordered d kept at size piece few room) in
-    ap (λ zs. fed d kept at size piece .printed ++ zs) (printed-due run (both .0) (both .1)) ∙ sym (piece-due d kept at size piece rest few room)
+printed-due : {d : Desk} {kept input printed : List ℕ} → Printed d kept input printed → in-order d kept ≡ true → printed ≡ pending d kept input
+printed-due (ended d kept) ok = let both = ordered d kept ok in rw ok (sym (last-due d kept (both .0) (both .1)))
+printed-due (closed d kept input o) ok = sym (rw o)
+printed-due (piece-fed d kept at size piece rest printed run) ok =
+    let both = ordered d kept ok in
+    let left = piece-due d kept at size piece rest (both .0) (both .1) in
+    ap (λ zs. fed-any d kept at size piece .printed ++ zs) (printed-due run (fed-in-order d kept ok at size piece))
+    ∙ sym (subst (λ (r : Result). Left r d kept piece rest) (sym (is-fed d kept ok at size piece)) left)
 
 -- From the first byte on it is what the definition over the whole input says, so it does not depend on how the input was cut.
 pub whole-printed : {kept input printed : List ℕ} → 65 ≤ length kept → Printed at-first kept input printed → printed ≡ output input
 unfolding output joined
-whole-printed room run = printed-due run (omega arith) room
+whole-printed {kept} room run = printed-due run (in-order-is at-first kept (omega arith) room)
 
 pub however-cut : {kept kept′ input one other : List ℕ} → 65 ≤ length kept → 65 ≤ length kept′ → Printed at-first kept input one → Printed at-first kept′ input other → one ≡ other
 however-cut room room′ run run′ = whole-printed room run ∙ sym (whole-printed room′ run′)

@@ -65,12 +65,15 @@ fed d kept at size [] = still d kept
 fed d kept at size (b ∷ bs) =
     cond (leb (at + longest) size) (onward (prints d kept b) (fed (next-desk d kept b) (next-kept d kept b) (at + length (prints d kept b)) size bs)) (still d kept)
 
--- A desk that has kept what it counts, in a place for 65 bytes; no other takes a byte.
+-- A desk that has kept what it counts, in a place for 65 bytes; no other takes a byte or prints one.
 abbrev pub in-order : Desk → (kept : List ℕ) → Bool
 in-order d kept = leb (d .begun) 65 && leb 65 (length kept)
 
 abbrev pub fed-any : Desk → (kept : List ℕ) → (at size : ℕ) → List ℕ → Result
 fed-any d kept at size bytes = cond (in-order d kept) (fed d kept at size bytes) (still d kept)
+
+abbrev pub prints-last-any : Desk → (kept : List ℕ) → List ℕ
+prints-last-any d kept = cond (in-order d kept) (prints-last d kept) []
 
 -- A piece that was fed, from a place of it on, with an output from a place on: what is left of each.
 pub record Feeds (f : Result) (from : ℕ) (out : List ℕ) (at : ℕ) (desk : Desk) (kept : List ℕ) (next : ℕ) (written : List ℕ) (end : ℕ) : Type 0 where

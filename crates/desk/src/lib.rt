@@ -1,13 +1,11 @@
 // The desk: bytes in, in pieces of any size, and the replies to their lines out.
 use clerk::Clerk;
-ghost use mathlib.Core.Bool.{cond};
-ghost use mathlib.Core.List.{[]};
 ghost use mathlib.Core.Path.{_≡_};
 ghost use Prim.Native.Nat.{_+_, _≤_};
 ghost use lib.ListN.{length, drop};
 ghost use Rattle.clerk.specs.Clerk.{after, reply};
 ghost use Rattle.replies.specs.Text.{text, Writes, if-room};
-ghost use Rattle.desk.specs.Steps.{begun-line, at-first, stopped, answered, longer, with-byte, next-desk, next-kept, prints, prints-last, in-order, fed-any, Feeds};
+ghost use Rattle.desk.specs.Steps.{begun-line, at-first, stopped, answered, longer, with-byte, next-desk, next-kept, prints, in-order, fed-any, prints-last-any, Feeds};
 
 // Where the desk stands: the clerk, the number of the line that is begun or next, how many bytes of it are kept, and whether no more is read.
 pub struct Desk {
@@ -196,7 +194,7 @@ pub fn feed(
 
 // Answers the line that is begun, at the end of the input, or says STOP for a line 65,536.
 pub fn finish(desk: Desk, kept: &[u8], out: &mut [u8], at: usize) -> usize
-    ensures { λ r. ⌜ Writes (now (out .entry)) at (cond (in-order desk (now (kept .entry))) (if-room (now (out .entry)) at (prints-last desk (now (kept .entry)))) []) (now (out .exit)) r × (r ≤ at + 71) ⌝ }
+    ensures { λ r. ⌜ Writes (now (out .entry)) at (if-room (now (out .entry)) at (prints-last-any desk (now (kept .entry)))) (now (out .exit)) r × (r ≤ at + 71) ⌝ }
 {
     if !is_in_order(desk, kept) {
         return at;

@@ -7,8 +7,8 @@ use native.Mathlib.Nat.{add-zero}
 use native.Mathlib.Omega.{arith}
 use borrow.Author.Tests.{ltb-true, ltb-false, lt-ltb, le-ltb, leb-true, leb-false, le-leb, lt-leb}
 use lib.Dec.{leb, ltb}
-use lib.ListN.{length, length-append, getD, take, set}
-use lib.Seq.{sets, length-sets, take-suc, take-length}
+use lib.ListN.{length, length-append, getD, take, drop, set}
+use lib.Seq.{sets, sets-eq, length-sets, take-suc, take-length, length-take-le, take-at, drop-at, slice}
 use Rattle.replies.specs.Text.{decimal-by, decimal, Writes, if-room}
 
 sets-append : (t : List ℕ) (i : ℕ) (xs ys : List ℕ) → sets t i (xs ++ ys) ≡ sets (sets t i xs) (i + length xs) ys
@@ -111,3 +111,13 @@ with-room bytes e w = rw e w
 
 pub no-room : (t : List ℕ) (at : ℕ) (bytes : List ℕ) → leb (at + 71) (length t) ≡ false → Writes t at (if-room t at bytes) t at
 no-room t at bytes e = rw e (writes-none t at)
+
+-- what was written stands between the two places
+pub stands-written : {t t′ bytes : List ℕ} {at end : ℕ} → Writes t at bytes t′ end → end ≤ length t → slice at end t′ ≡ bytes
+stands-written {t} {t′} {bytes} {at} {end} w fits =
+    let behind = w .behind in
+    let before : length (take at t) ≡ at = length-take-le at t (omega arith) in
+    let both = length-append (take at t) bytes in
+    ap (slice at end) (w .written ∙ sets-eq bytes t at (omega arith))
+    ∙ ap (drop at) (take-at (take at t ++ bytes) (drop (at + length bytes) t) end (omega arith))
+    ∙ drop-at (take at t) bytes at before

@@ -2,6 +2,7 @@
 use borrow.Author.Needs.{needs}
 use Rattle.desk.proofs.finish.Statement.{statement}
 use Rattle.desk.proofs.finish.Tie as tie
+use mathlib.Core.Bool.{true}
 use mathlib.Core.Path.{sym, _∙_}
 use Prim.Native.Nat.{_+_}
 use native.Mathlib.Omega.{arith}
@@ -9,7 +10,6 @@ use borrow.Author.Tests.{not-true, not-false, lt-ltb, le-ltb, eq-eqb, ne-eqb}
 use lib.Dec.{leb}
 use lib.ListN.{length}
 use Rattle.replies.specs.Text.{longest}
-use Rattle.replies.proofs.Writing.{writes-none}
 use Rattle.desk.specs.Steps.{in-order}
 use Rattle.desk.proofs.Bytes.{writes-nothing, ordered}
 
@@ -17,13 +17,13 @@ is-in-order-requires : tie.Need-is-in-order-requires
 is-in-order-requires c κs = search needs
 
 returns : tie.Need-returns
-returns c = (rw (sym (c .before .is-in-order .ensures) ∙ not-true _ (c .if1 .taken)) (writes-none _ _), omega arith)
+returns c = (rw (sym (c .before .is-in-order .ensures) ∙ not-true _ (c .if1 .taken)) (writes-nothing (c .before .before .before .before .args .out .now) (c .before .before .before .before .args .at) (leb (c .before .before .before .before .args .at + longest) (length (c .before .before .before .before .args .out .now))) true), omega arith)
 
 returns-2 : tie.Need-returns-2
-returns-2 c = (rw (c .if2 .taken) (writes-nothing (c .before .before .before .before .before .args .out .now) (c .before .before .before .before .before .args .at) (in-order (c .before .before .before .before .before .args .desk) (c .before .before .before .before .before .args .kept .now)) (leb (c .before .before .before .before .before .args .at + longest) (length (c .before .before .before .before .before .args .out .now)))), omega arith)
+returns-2 c = (rw (c .if2 .taken) (writes-nothing (c .before .before .before .before .before .args .out .now) (c .before .before .before .before .before .args .at) (leb (c .before .before .before .before .before .args .at + longest) (length (c .before .before .before .before .before .args .out .now))) (in-order (c .before .before .before .before .before .args .desk) (c .before .before .before .before .before .args .kept .now))), omega arith)
 
 returns-3 : tie.Need-returns-3
-returns-3 c = (rw (c .before .before .if2 .left, eq-eqb _ 0 (c .if3 .taken)) (writes-nothing (c .before .before .before .before .before .before .before .args .out .now) (c .before .before .before .before .before .before .before .args .at) (in-order (c .before .before .before .before .before .before .before .args .desk) (c .before .before .before .before .before .before .before .args .kept .now)) (leb (c .before .before .before .before .before .before .before .args .at + longest) (length (c .before .before .before .before .before .before .before .args .out .now)))), omega arith)
+returns-3 c = (rw (c .before .before .if2 .left, eq-eqb _ 0 (c .if3 .taken)) (writes-nothing (c .before .before .before .before .before .before .before .args .out .now) (c .before .before .before .before .before .before .before .args .at) (leb (c .before .before .before .before .before .before .before .args .at + longest) (length (c .before .before .before .before .before .before .before .args .out .now))) (in-order (c .before .before .before .before .before .before .before .args .desk) (c .before .before .before .before .before .before .before .args .kept .now))), omega arith)
 
 tell-requires : tie.Need-tell-requires
 tell-requires c κs = ordered (c .before .before .before .before .before .before .before .before .before .before .args .desk) (c .before .before .before .before .before .before .before .before .before .before .args .kept .now) (sym (c .before .before .before .before .before .before .before .is-in-order .ensures) ∙ not-false _ (c .before .before .before .before .before .before .if1 .left))

@@ -1,0 +1,76 @@
+-- A program's calls of `feed` and `finish` are the steps of a run: what they wrote, one behind the other, is what is printed for the input, and so by
+-- `whole-printed` the output of it. What a call wrote stands in its output from the place that it was given to the place that it returned.
+use mathlib.Core.Bool.{Bool, true, false, cond}
+use mathlib.Core.List.{List, [], _∷_, _++_}
+use mathlib.Core.Path.{_≡_, refl, sym, ap, subst, _∙_}
+use Prim.Native.Nat.{ℕ, _+_, _≤_, _<_}
+use native.Mathlib.Nat.{add-zero}
+use native.Mathlib.Omega.{arith}
+use borrow.Author.Tests.{leb-true, leb-false, lt-leb}
+use lib.Dec.{leb}
+use lib.ListN.{length, drop}
+use lib.Seq.{drop-drop, slice, slice-empty}
+use Rattle.replies.specs.Text.{longest, Writes, if-room}
+use Rattle.replies.proofs.Writing.{stands-written}
+use Rattle.desk.specs.declared.Desk.{Desk}
+use Rattle.desk.specs.Steps.{prints-last, Result, still, fed, in-order, fed-any, prints-last-any, Feeds}
+use Rattle.desk.specs.Runs.{Printed, ended, closed, piece-fed}
+use Rattle.desk.proofs.Bytes.{all-written, writes-as}
+
+-- behind the end of an output nothing is printed
+none-behind : (d : Desk) (kept : List ℕ) (at size : ℕ) (bytes : List ℕ) → size < at → fed-any d kept at size bytes .printed ≡ []
+unfolding fed
+none-behind d kept at size bytes l = by (in-order d kept)
+  where
+    full : (bs : List ℕ) → fed d kept at size bs .printed ≡ []
+    full [] = refl
+    full (b ∷ bs) = rw (lt-leb (at + longest) size (omega arith)) refl
+
+    by : (t : Bool) → cond t (fed d kept at size bytes) (still d kept) .printed ≡ []
+    by true = full bytes
+    by false = refl
+
+-- nothing was written
+nothing : {t t′ : List ℕ} {at end : ℕ} → Writes t at [] t′ end → slice at end t′ ≡ []
+nothing {t} {t′} {at} w = ap (λ n. slice at n t′) (w .behind ∙ add-zero at) ∙ slice-empty at t′
+
+-- A call of `feed` that meets its promise, and a run from where it left the desk.
+module _ (d : Desk) (kept chunk : List ℕ) {d′ : Desk} {kept′ out out′ : List ℕ} {from at next end : ℕ}
+    (f : Feeds (fed-any d kept at (length out) (drop from chunk)) from out at d′ kept′ next out′ end) (fits : at ≤ length out → end ≤ length out) where
+  abbrev r : Result
+  r = fed-any d kept at (length out) (drop from chunk)
+
+  left-is : drop next chunk ≡ drop (r .taken) (drop from chunk)
+  left-is = ap (λ n. drop n chunk) (f .next-is) ∙ sym (drop-drop (r .taken) from chunk)
+
+  wrote : slice at end out′ ≡ r .printed
+  wrote = by (leb at (length out)) refl
+    where
+      by : (t : Bool) → leb at (length out) ≡ t → slice at end out′ ≡ r .printed
+      by true e = stands-written (f .written-is) (fits (leb-true at (length out) e))
+      by false e =
+          let none = none-behind d kept at (length out) (drop from chunk) (leb-false at (length out) e) in
+          nothing (writes-as none (f .written-is)) ∙ sym none
+
+  pub feed-is-a-step : (rest : List ℕ) {printed : List ℕ} → Printed d′ kept′ (drop next chunk ++ rest) printed → Printed d kept (drop from chunk ++ rest) (slice at end out′ ++ printed)
+  feed-is-a-step rest {printed} run =
+      subst (λ (zs : List ℕ). Printed d kept (drop from chunk ++ rest) (zs ++ printed)) (sym wrote)
+      (piece-fed d kept at (length out) (drop from chunk) rest printed
+      (subst (λ (e : Desk). Printed e (r .kept) (drop (r .taken) (drop from chunk) ++ rest) printed) (f .desk-is)
+      (subst (λ (k : List ℕ). Printed d′ k (drop (r .taken) (drop from chunk) ++ rest) printed) (f .kept-is)
+      (subst (λ (zs : List ℕ). Printed d′ kept′ (zs ++ rest) printed) left-is run))))
+
+-- A call of `finish` that meets its promise, with room, at the end of the input; and one with a desk that reads no more, wherever the input stands.
+module _ (d : Desk) (kept : List ℕ) {out out′ : List ℕ} {at end : ℕ} (w : Writes out at (if-room out at (prints-last-any d kept)) out′ end) where
+  pub finish-is-the-end : end ≤ at + longest → at + longest ≤ length out → Printed d kept [] (slice at end out′)
+  finish-is-the-end few room =
+      subst (λ (zs : List ℕ). Printed d kept [] zs) (sym (stands-written (all-written (prints-last-any d kept) room w) (omega arith))) (ended d kept)
+
+  pub finish-when-over : (input : List ℕ) → d .over ≡ true → Printed d kept input (slice at end out′)
+  finish-when-over input o =
+      subst (λ (zs : List ℕ). Printed d kept input zs) (sym (nothing (writes-as (none (leb (at + longest) (length out)) (in-order d kept)) w))) (closed d kept input o)
+    where
+      none : (t u : Bool) → cond t (cond u (prints-last d kept) []) [] ≡ []
+      none true true = rw o refl
+      none true false = refl
+      none false u = refl
