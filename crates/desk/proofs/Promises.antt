@@ -10,11 +10,12 @@ use Rattle.lines.specs.Lines.{fields, all-digits, value-on, is-number, numeral,
 use Rattle.clerk.specs.declared.Clerk.the-variants.{NoArea}
 use Rattle.clerk.specs.Clerk.{Said, after, reply}
 use Rattle.replies.specs.Text.{decimal-by, decimal, text, Writes, if-room}
+use Rattle.replies.proofs.Promises.{writes-one}
 use Rattle.desk.specs.declared.Desk.{Desk}
 use Rattle.desk.specs.Desk.{lines-of, answers, output}
 use Rattle.desk.specs.Steps.{at-first, stopped, prints-last-any, Result, Feeds}
 
--- Two results of feeding that meet the promise are one.
+-- Two results of feeding that meet the promise are one; of `finish`, `writes-one` says it.
 module _ {f : Result} {from : ℕ} {out : List ℕ} {at : ℕ} {d d′ : Desk} {kept kept′ : List ℕ} {next next′ : ℕ} {written written′ : List ℕ} {end end′ : ℕ}
     (one : Feeds f from out at d kept next written end) (other : Feeds f from out at d′ kept′ next′ written′ end′) where
   pub desk-one : d ≡ d′
@@ -27,10 +28,10 @@ module _ {f : Result} {from : ℕ} {out : List ℕ} {at : ℕ} {d d′ : Desk} {
   next-one = one .next-is ∙ sym (other .next-is)
 
   pub written-one : written ≡ written′
-  written-one = one .written-is .written ∙ sym (other .written-is .written)
+  written-one = writes-one (one .written-is) (other .written-is) .0
 
   pub end-one : end ≡ end′
-  end-one = one .written-is .behind ∙ sym (other .written-is .behind)
+  end-one = writes-one (one .written-is) (other .written-is) .1
 
 -- Turned away: a reader that answers its first line and gives every other line the same answer. For an empty line and then N 1 with no area the answers
 -- are 6 and 7.
