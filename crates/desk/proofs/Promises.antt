@@ -49,7 +49,7 @@ repeats-its-first promise =
     let second : _≡_ {A = ℕ} 54 55 = ap (λ (t : List ℕ). getD t 22 0) (promise (10 ∷ 78 ∷ 32 ∷ 49 ∷ [])) in
     omega arith
 
--- Turned away, of `closed`: one that leaves the desk reading, and one that begins anew.
+-- Turned away, of `closed`: one that leaves the desk reading, and one that closes it but forgets where it stood.
 abbrev bit : Bool → ℕ
 bit true = 1
 bit false = 0
@@ -57,8 +57,11 @@ bit false = 0
 pub reads-on : ((d : Desk) → d ≡ stopped d) → ⊥
 reads-on promise = let other : _≡_ {A = ℕ} 0 1 = ap (λ (d : Desk). bit (d .over)) (promise at-first) in omega arith
 
-pub begins-anew : ((d : Desk) → at-first ≡ stopped d) → ⊥
-begins-anew promise = let other : _≡_ {A = ℕ} 0 1 = ap (λ (d : Desk). bit (d .over)) (promise at-first) in omega arith
+pub begins-anew : ((d : Desk) → record { clerk = NoArea; line = 1; begun = 0; over = true } ≡ stopped d) → ⊥
+begins-anew promise =
+    let second : Desk = record { clerk = NoArea; line = 2; begun = 0; over = false } in
+    let other : _≡_ {A = ℕ} 1 2 = ap (λ (d : Desk). d .line) (promise second) in
+    omega arith
 
 -- Turned away, of `finish`: one that writes nothing, and one that takes an empty line for begun.
 abbrev last-of : Desk → List ℕ
