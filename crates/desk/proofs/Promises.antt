@@ -49,11 +49,18 @@ repeats-its-first promise =
     let second : _≡_ {A = ℕ} 54 55 = ap (λ (t : List ℕ). getD t 22 0) (promise (10 ∷ 78 ∷ 32 ∷ 49 ∷ [])) in
     omega arith
 
--- Turned away, of `closed`: one that leaves the desk reading, and one that closes it but forgets where it stood.
 abbrev bit : Bool → ℕ
 bit true = 1
 bit false = 0
 
+-- Turned away, of `opened`: one that counts the lines from 0, and one that reads none.
+pub counts-from-nothing : record { clerk = NoArea; line = 0; begun = 0; over = false } ≡ at-first → ⊥
+counts-from-nothing promise = let other : _≡_ {A = ℕ} 0 1 = ap (λ (d : Desk). d .line) promise in omega arith
+
+pub reads-none : record { clerk = NoArea; line = 1; begun = 0; over = true } ≡ at-first → ⊥
+reads-none promise = let other : _≡_ {A = ℕ} 1 0 = ap (λ (d : Desk). bit (d .over)) promise in omega arith
+
+-- Turned away, of `closed`: one that leaves the desk reading, and one that closes it but forgets where it stood.
 pub reads-on : ((d : Desk) → d ≡ stopped d) → ⊥
 reads-on promise = let other : _≡_ {A = ℕ} 0 1 = ap (λ (d : Desk). bit (d .over)) (promise at-first) in omega arith
 
