@@ -7,7 +7,7 @@ use borrow.Author.Tests.{leb-true, le-leb, lt-ltb, le-ltb, eq-eqb, ne-eqb}
 use lib.Dec.{leb}
 use lib.ListN.{length}
 use Rattle.clerk.specs.Clerk.{reply}
-use Rattle.replies.specs.Text.{text, stop, Writes, if-room}
+use Rattle.replies.specs.Text.{text, stop, longest, Writes, if-room}
 use Rattle.replies.proofs.Writing.{writes-none}
 use Rattle.desk.specs.declared.Desk.{Desk}
 use Rattle.desk.specs.Steps.{begun-line, stopped, answered, longer, with-byte, next-desk, next-kept, prints, in-order}
@@ -18,8 +18,8 @@ writes-nothing t at true false = writes-none t at
 writes-nothing t at false q = writes-none t at
 
 -- where there is room, all is written
-pub all-written : {t t′ : List ℕ} {at end : ℕ} (bytes : List ℕ) → at + 71 ≤ length t → Writes t at (if-room t at bytes) t′ end → Writes t at bytes t′ end
-all-written {t} {t′} {at} {end} bytes room w = subst (λ (bs : List ℕ). Writes t at bs t′ end) (rw (le-leb (at + 71) (length t) room)) w
+pub all-written : {t t′ : List ℕ} {at end : ℕ} (bytes : List ℕ) → at + longest ≤ length t → Writes t at (if-room t at bytes) t′ end → Writes t at bytes t′ end
+all-written {t} {t′} {at} {end} bytes room w = subst (λ (bs : List ℕ). Writes t at bs t′ end) (rw (le-leb (at + longest) (length t) room)) w
 
 -- a desk that is in order
 pub ordered : (d : Desk) (kept : List ℕ) → in-order d kept ≡ true → (d .begun ≤ 65) × (65 ≤ length kept)

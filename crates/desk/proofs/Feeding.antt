@@ -9,7 +9,7 @@ use borrow.Author.Tests.{ltb-false, leb-true}
 use lib.Dec.{leb, ltb, eqb}
 use lib.ListN.{length, getD, drop, drop-of-length-le, set, length-set}
 use lib.Seq.{drop-cons}
-use Rattle.replies.specs.Text.{Writes}
+use Rattle.replies.specs.Text.{longest, Writes}
 use Rattle.replies.proofs.Writing.{writes-both, writes-none, writes-length}
 use Rattle.desk.specs.declared.Desk.{Desk}
 use Rattle.desk.specs.Steps.{stopped, answered, next-desk, next-kept, prints, Result, still, onward, fed, in-order, fed-any, Feeds}
@@ -28,7 +28,7 @@ before-onward n xs ys r =
     λ j. record { desk = r .desk; kept = r .kept; taken = count j; printed = sym (append-assoc xs ys (r .printed)) j }
 
 -- one byte of a piece
-pub fed-byte : (d : Desk) (kept : List ℕ) (at size : ℕ) (chunk : List ℕ) (i : ℕ) → i < length chunk → leb (at + 71) size ≡ true
+pub fed-byte : (d : Desk) (kept : List ℕ) (at size : ℕ) (chunk : List ℕ) (i : ℕ) → i < length chunk → leb (at + longest) size ≡ true
     → fed d kept at size (drop i chunk)
     ≡ onward (prints d kept (getD chunk i 0)) (fed (next-desk d kept (getD chunk i 0)) (next-kept d kept (getD chunk i 0)) (at + length (prints d kept (getD chunk i 0))) size (drop (i + 1) chunk))
 unfolding fed
@@ -36,7 +36,7 @@ fed-byte d kept at size chunk i l room =
     let on : i + 1 ≡ suc i = omega arith in
     rw on (rw (drop-cons chunk i 0 l) (rw room refl))
 
-fed-full : (d : Desk) (kept : List ℕ) (at size : ℕ) (chunk : List ℕ) (i : ℕ) → i < length chunk → leb (at + 71) size ≡ false → fed d kept at size (drop i chunk) ≡ still d kept
+fed-full : (d : Desk) (kept : List ℕ) (at size : ℕ) (chunk : List ℕ) (i : ℕ) → i < length chunk → leb (at + longest) size ≡ false → fed d kept at size (drop i chunk) ≡ still d kept
 unfolding fed
 fed-full d kept at size chunk i l room = rw (drop-cons chunk i 0 l) (rw room refl)
 
@@ -97,8 +97,8 @@ module _ {d₀ : Desk} {kept₀ chunk : List ℕ} {from : ℕ} {out₀ : List �
   out-size = writes-length (m .written)
 
   -- one byte on
-  pub one-on : i < length chunk → leb (p + 71) (length out) ≡ true → (d′ : Desk) → d′ ≡ next-desk d kept (getD chunk i 0) → (kept′ : List ℕ) → kept′ ≡ next-kept d kept (getD chunk i 0)
-      → length kept′ ≡ length kept → (out′ : List ℕ) (p′ : ℕ) → Writes out p (prints d kept (getD chunk i 0)) out′ p′ → p′ ≤ p + 71 → Midway d₀ kept₀ chunk from out₀ at kept′ out′ d′ (i + 1) p′
+  pub one-on : i < length chunk → leb (p + longest) (length out) ≡ true → (d′ : Desk) → d′ ≡ next-desk d kept (getD chunk i 0) → (kept′ : List ℕ) → kept′ ≡ next-kept d kept (getD chunk i 0)
+      → length kept′ ≡ length kept → (out′ : List ℕ) (p′ : ℕ) → Writes out p (prints d kept (getD chunk i 0)) out′ p′ → p′ ≤ p + longest → Midway d₀ kept₀ chunk from out₀ at kept′ out′ d′ (i + 1) p′
   one-on l room d′ desk-is kept′ kept-is same out′ p′ w far =
       let b = getD chunk i 0 in
       let size = length out₀ in
@@ -110,10 +110,10 @@ module _ {d₀ : Desk} {kept₀ chunk : List ℕ} {from : ℕ} {out₀ : List �
         kept-size = same ∙ m .kept-size;
         here = let there = m .here in omega arith;
         written = writes-both (m .written) w;
-        fits = λ _. let space = leb-true (p + 71) (length out) room in let all = out-size in omega arith;
+        fits = λ _. let space = leb-true (p + longest) (length out) room in let all = out-size in omega arith;
         due =
             m .due
-            ∙ ap (before (m .count) (m .printed)) (fed-byte d kept p size chunk i l (subst (λ (n : ℕ). leb (p + 71) n ≡ true) out-size room))
+            ∙ ap (before (m .count) (m .printed)) (fed-byte d kept p size chunk i l (subst (λ (n : ℕ). leb (p + longest) n ≡ true) out-size room))
             ∙ before-onward (m .count) (m .printed) (prints d kept b) (fed (next-desk d kept b) (next-kept d kept b) (p + length (prints d kept b)) size (drop (i + 1) chunk))
             ∙ ap (before (m .count + 1) (m .printed ++ prints d kept b))
             (λ j. fed (sym desk-is j) (sym kept-is j) (sym (w .behind) j) size (drop (i + 1) chunk));
@@ -130,8 +130,8 @@ module _ {d₀ : Desk} {kept₀ chunk : List ℕ} {from : ℕ} {out₀ : List �
         written-is = writes-as (sym (ap (λ (r : Result). r .printed) all ∙ append-nil (m .printed))) (m .written);
       }
 
-  pub no-room-left : i < length chunk → leb (p + 71) (length out) ≡ false → Feeds (fed-any d₀ kept₀ at (length out₀) (drop from chunk)) from out₀ at d kept i out p
-  no-room-left l room = left (fed-full d kept p (length out₀) chunk i l (subst (λ (n : ℕ). leb (p + 71) n ≡ false) out-size room))
+  pub no-room-left : i < length chunk → leb (p + longest) (length out) ≡ false → Feeds (fed-any d₀ kept₀ at (length out₀) (drop from chunk)) from out₀ at d kept i out p
+  no-room-left l room = left (fed-full d kept p (length out₀) chunk i l (subst (λ (n : ℕ). leb (p + longest) n ≡ false) out-size room))
 
   pub no-byte-left : length chunk ≤ i → Feeds (fed-any d₀ kept₀ at (length out₀) (drop from chunk)) from out₀ at d kept i out p
   no-byte-left l = left (fed-end d kept p (length out₀) chunk i l)

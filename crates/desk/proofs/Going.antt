@@ -7,6 +7,7 @@ use native.Mathlib.Omega.{arith}
 use borrow.Author.Tests.{le-leb}
 use lib.Dec.{leb, ltb, eqb}
 use lib.ListN.{length, drop}
+use Rattle.replies.specs.Text.{longest}
 use Rattle.desk.specs.declared.Desk.{Desk}
 use Rattle.desk.specs.Steps.{next-desk, next-kept, prints, Result, still, onward, fed, in-order, fed-any, Feeds}
 use Rattle.desk.proofs.Bytes.{ordered, in-order-is}
@@ -17,7 +18,7 @@ fed-ordered : (d : Desk) (kept : List ℕ) (at size : ℕ) (bytes : List ℕ) �
 unfolding fed
 fed-ordered d kept at size [] l m = in-order-is d kept l m
 fed-ordered d kept at size (b ∷ bs) l m =
-    by (leb (at + 71) size)
+    by (leb (at + longest) size)
     (fed-ordered (next-desk d kept b) (next-kept d kept b) (at + length (prints d kept b)) size bs (still-ordered d kept b l)
     (let same = kept-length d kept b (d .over) (ltb 65535 (d .line)) (eqb b 10) (ltb 64 (d .begun)) in omega arith))
   where
@@ -41,7 +42,7 @@ module _ (d : Desk) (kept : List ℕ) (ok : in-order d kept ≡ true) (at size f
   pub stays-in-order : in-order d′ kept′ ≡ true
   stays-in-order = ap₂ in-order (f .desk-is) (f .kept-is) ∙ fed-in-order d kept ok at size (drop from chunk)
 
-  pub goes-on : at + 71 ≤ size → from < length chunk → from < next
+  pub goes-on : at + longest ≤ size → from < length chunk → from < next
   goes-on room l =
-      let taken = f .next-is ∙ ap (λ (r : Result). from + r .taken) (is-fed d kept ok at size (drop from chunk) ∙ fed-byte d kept at size chunk from l (le-leb (at + 71) size room)) in
+      let taken = f .next-is ∙ ap (λ (r : Result). from + r .taken) (is-fed d kept ok at size (drop from chunk) ∙ fed-byte d kept at size chunk from l (le-leb (at + longest) size room)) in
       omega arith

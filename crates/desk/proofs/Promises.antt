@@ -9,7 +9,7 @@ use lib.ListN.{getD, replicate}
 use Rattle.lines.specs.Lines.{fields, all-digits, value-on, is-number, numeral, same-bytes, shaped, request}
 use Rattle.clerk.specs.declared.Clerk.the-variants.{NoArea}
 use Rattle.clerk.specs.Clerk.{Said, after, reply}
-use Rattle.replies.specs.Text.{decimal-by, decimal, text, Writes, if-room}
+use Rattle.replies.specs.Text.{decimal-by, decimal, text, longest, Writes, if-room}
 use Rattle.replies.proofs.Promises.{writes-one}
 use Rattle.desk.specs.declared.Desk.{Desk}
 use Rattle.desk.specs.Desk.{lines-of, answers, output}
@@ -72,14 +72,14 @@ begins-anew promise =
 
 -- Turned away, of `finish`: one that writes nothing, and one that takes an empty line for begun.
 abbrev last-of : Desk → List ℕ
-last-of d = if-room (replicate 71 0) 0 (prints-last-any d (replicate 65 0))
+last-of d = if-room (replicate longest 0) 0 (prints-last-any d (replicate 65 0))
 
 abbrev with-begun : ℕ → Desk
 with-begun n = record { clerk = NoArea; line = 1; begun = n; over = false }
 
-pub last-line-lost : ((d : Desk) → Writes (replicate 71 0) 0 (last-of d) (replicate 71 0) 0) → ⊥
+pub last-line-lost : ((d : Desk) → Writes (replicate longest 0) 0 (last-of d) (replicate longest 0) 0) → ⊥
 unfolding text decimal decimal-by reply request shaped fields same-bytes
 last-line-lost promise = let other : _≡_ {A = ℕ} 0 12 = promise (with-begun 1) .behind in omega arith
 
-pub empty-line-answered : (after : List ℕ) (end : ℕ) → Writes (replicate 71 0) 0 (last-of at-first) after end → 1 ≤ end → ⊥
+pub empty-line-answered : (after : List ℕ) (end : ℕ) → Writes (replicate longest 0) 0 (last-of at-first) after end → 1 ≤ end → ⊥
 empty-line-answered after end promise some = let none : end ≡ 0 = promise .behind in omega arith

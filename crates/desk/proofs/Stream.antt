@@ -13,7 +13,7 @@ use Rattle.lines.specs.Lines.{onto}
 use Rattle.clerk.specs.declared.Clerk.{Clerk}
 use Rattle.clerk.specs.Clerk.{after, reply}
 use Rattle.clerk.proofs.Promises.{reply-kept, after-kept}
-use Rattle.replies.specs.Text.{text, stop}
+use Rattle.replies.specs.Text.{text, stop, longest}
 use Rattle.desk.specs.declared.Desk.{Desk}
 use Rattle.desk.specs.Desk.{lines-of, answers, output}
 use Rattle.desk.specs.Steps.{begun-line, at-first, stopped, answered, next-desk, next-kept, prints, prints-last, Result, still, onward, fed, in-order, fed-any}
@@ -145,7 +145,7 @@ piece-due : (d : Desk) (kept : List ℕ) (at size : ℕ) (piece rest : List ℕ)
 unfolding fed
 piece-due d kept at size [] rest few room = refl
 piece-due d kept at size (b ∷ bs) rest few room =
-    by (leb (at + 71) size)
+    by (leb (at + longest) size)
     (piece-due (next-desk d kept b) (next-kept d kept b) (at + length (prints d kept b)) size bs rest (still-ordered d kept b few)
     (let same = kept-length d kept b (d .over) (ltb 65535 (d .line)) (eqb b 10) (ltb 64 (d .begun)) in omega arith))
   where

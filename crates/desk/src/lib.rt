@@ -4,7 +4,7 @@ ghost use mathlib.Core.Path.{_≡_};
 ghost use Prim.Native.Nat.{_+_, _≤_};
 ghost use lib.ListN.{length, drop};
 ghost use Rattle.clerk.specs.Clerk.{after, reply};
-ghost use Rattle.replies.specs.Text.{text, Writes, if-room};
+ghost use Rattle.replies.specs.Text.{text, longest, Writes, if-room};
 ghost use Rattle.desk.specs.Steps.{begun-line, at-first, stopped, answered, longer, with-byte, next-desk, next-kept, prints, in-order, fed-any, prints-last-any, Feeds};
 
 // Where the desk stands: the clerk, the number of the line that is begun or next, how many bytes of it are kept, and whether no more is read.
@@ -75,7 +75,7 @@ struct Told {
 fn tell(desk: Desk, kept: &[u8], out: &mut [u8], at: usize) -> Told
     requires { ⌜ (desk .begun ≤ 65) × (65 ≤ length (now kept)) ⌝ }
     ensures { λ r. ⌜ (r .clerk ≡ after (desk .clerk) (begun-line desk (now (kept .entry))))
-        × Writes (now (out .entry)) at (if-room (now (out .entry)) at (text (desk .line) (reply (desk .clerk) (begun-line desk (now (kept .entry)))))) (now (out .exit)) (r .at) × (r .at ≤ at + 71) ⌝ }
+        × Writes (now (out .entry)) at (if-room (now (out .entry)) at (text (desk .line) (reply (desk .clerk) (begun-line desk (now (kept .entry)))))) (now (out .exit)) (r .at) × (r .at ≤ at + longest) ⌝ }
 {
     let clerk = desk.clerk;
     let begun = desk.begun;
@@ -93,7 +93,7 @@ fn tell(desk: Desk, kept: &[u8], out: &mut [u8], at: usize) -> Told
 fn answer(desk: Desk, kept: &[u8], out: &mut [u8], at: usize) -> Stepped
     requires { ⌜ (desk .begun ≤ 65) × (65 ≤ length (now kept)) × (desk .line ≤ 65535) ⌝ }
     ensures { λ r. ⌜ (r .desk ≡ answered desk (now (kept .entry)))
-        × Writes (now (out .entry)) at (if-room (now (out .entry)) at (text (desk .line) (reply (desk .clerk) (begun-line desk (now (kept .entry)))))) (now (out .exit)) (r .at) × (r .at ≤ at + 71) ⌝ }
+        × Writes (now (out .entry)) at (if-room (now (out .entry)) at (text (desk .line) (reply (desk .clerk) (begun-line desk (now (kept .entry)))))) (now (out .exit)) (r .at) × (r .at ≤ at + longest) ⌝ }
 {
     let told = tell(desk, kept, out, at);
     let clerk = told.clerk;
@@ -111,9 +111,9 @@ fn answer(desk: Desk, kept: &[u8], out: &mut [u8], at: usize) -> Stepped
 
 // One byte.
 fn step(desk: Desk, kept: &mut [u8], b: u8, out: &mut [u8], at: usize) -> Stepped
-    requires { ⌜ (desk .begun ≤ 65) × (65 ≤ length (now kept)) × (at + 71 ≤ length (now out)) ⌝ }
+    requires { ⌜ (desk .begun ≤ 65) × (65 ≤ length (now kept)) × (at + longest ≤ length (now out)) ⌝ }
     ensures { λ r. ⌜ (r .desk ≡ next-desk desk (now (kept .entry)) b) × (now (kept .exit) ≡ next-kept desk (now (kept .entry)) b)
-        × Writes (now (out .entry)) at (prints desk (now (kept .entry)) b) (now (out .exit)) (r .at) × (r .at ≤ at + 71) ⌝ }
+        × Writes (now (out .entry)) at (prints desk (now (kept .entry)) b) (now (out .exit)) (r .at) × (r .at ≤ at + longest) ⌝ }
 {
     if desk.over {
         return Stepped { desk: desk, at: at };
@@ -194,7 +194,7 @@ pub fn feed(
 
 // Answers the line that is begun, at the end of the input, or says STOP for a line 65,536.
 pub fn finish(desk: Desk, kept: &[u8], out: &mut [u8], at: usize) -> usize
-    ensures { λ r. ⌜ Writes (now (out .entry)) at (if-room (now (out .entry)) at (prints-last-any desk (now (kept .entry)))) (now (out .exit)) r × (r ≤ at + 71) ⌝ }
+    ensures { λ r. ⌜ Writes (now (out .entry)) at (if-room (now (out .entry)) at (prints-last-any desk (now (kept .entry)))) (now (out .exit)) r × (r ≤ at + longest) ⌝ }
 {
     if !is_in_order(desk, kept) {
         return at;

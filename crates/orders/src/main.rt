@@ -6,11 +6,12 @@ ghost use mathlib.Core.Bool.{true};
 ghost use mathlib.Core.Path.{_≡_};
 ghost use Prim.Native.Nat.{_≤_, _<_};
 ghost use lib.ListN.{length};
+ghost use Rattle.replies.specs.Text.{longest};
 ghost use Rattle.desk.specs.Steps.{in-order};
 
 // A chunk goes to the desk in as many turns as its text needs, and the text of each turn is written. A write that fails closes the desk.
 fn serve(desk: Desk, kept: &mut [u8], chunk: &[u8], out: &mut [u8]) -> Desk
-    requires { ⌜ (in-order desk (now kept) ≡ true) × (71 ≤ length (now out)) ⌝ }
+    requires { ⌜ (in-order desk (now kept) ≡ true) × (longest ≤ length (now out)) ⌝ }
     ensures { λ r. ⌜ in-order r (now (kept .exit)) ≡ true ⌝ }
 {
     let mut d = desk;
@@ -34,7 +35,7 @@ struct Went {
 }
 
 fn turn(desk: Desk, kept: &mut [u8], chunk: &mut [u8], out: &mut [u8]) -> Went
-    requires { ⌜ (in-order desk (now kept) ≡ true) × (71 ≤ length (now out)) ⌝ }
+    requires { ⌜ (in-order desk (now kept) ≡ true) × (longest ≤ length (now out)) ⌝ }
     ensures { λ r. ⌜ in-order (r .desk) (now (kept .exit)) ≡ true ⌝ }
 {
     let n = io::count(libc::read(STDIN_FILENO, chunk), chunk);

@@ -27,7 +27,7 @@ room-for-a-byte promise = let other : _≡_ {A = ℕ} 1 0 = ap bit (promise 0 1)
 
 -- Of `write_reply` and `write_stop`: one that writes nothing, and one that writes the same for every line.
 abbrev buffer : List ℕ
-buffer = replicate 71 0
+buffer = replicate longest 0
 
 abbrev leaves : (ℕ → List ℕ) → ((line : ℕ) → List ℕ) → (ℕ → ℕ) → Type 0
 leaves bytes after end = (line : ℕ) → Writes buffer 0 (if-room buffer 0 (bytes line)) (after line) (end line)

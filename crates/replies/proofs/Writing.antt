@@ -9,7 +9,7 @@ use borrow.Author.Tests.{ltb-true, ltb-false, lt-ltb, le-ltb, leb-true, leb-fals
 use lib.Dec.{leb, ltb}
 use lib.ListN.{length, length-append, getD, take, drop, set}
 use lib.Seq.{sets, sets-eq, length-sets, take-suc, take-length, length-take-le, take-at, drop-at, slice}
-use Rattle.replies.specs.Text.{decimal-by, decimal, Writes, if-room}
+use Rattle.replies.specs.Text.{decimal-by, decimal, longest, Writes, if-room}
 
 sets-append : (t : List ℕ) (i : ℕ) (xs ys : List ℕ) → sets t i (xs ++ ys) ≡ sets (sets t i xs) (i + length xs) ys
 sets-append t i [] ys = ap (λ n. sets t n ys) (sym (add-zero i))
@@ -98,18 +98,18 @@ pub ten-digits : (n : ℕ) → n < 4294967296 → length (decimal n) ≤ 10
 ten-digits n l = few-digits 9 n (omega arith)
 
 -- room behind a place, tested without a sum that could be too large
-pub room-is : (at n : ℕ) → at ≤ n → leb 71 (n - at) ≡ leb (at + 71) n
-room-is at n l = by (leb 71 (n - at)) refl
+pub room-is : (at n : ℕ) → at ≤ n → leb longest (n - at) ≡ leb (at + longest) n
+room-is at n l = by (leb longest (n - at)) refl
   where
-    by : (t : Bool) → leb 71 (n - at) ≡ t → leb 71 (n - at) ≡ leb (at + 71) n
-    by true e = e ∙ sym (le-leb (at + 71) n (let room = leb-true 71 (n - at) e in omega arith))
-    by false e = e ∙ sym (lt-leb (at + 71) n (let none = leb-false 71 (n - at) e in omega arith))
+    by : (t : Bool) → leb longest (n - at) ≡ t → leb longest (n - at) ≡ leb (at + longest) n
+    by true e = e ∙ sym (le-leb (at + longest) n (let room = leb-true longest (n - at) e in omega arith))
+    by false e = e ∙ sym (lt-leb (at + longest) n (let none = leb-false longest (n - at) e in omega arith))
 
 -- what is written where there is room, and where there is none
-pub with-room : {t t′ : List ℕ} {at end : ℕ} (bytes : List ℕ) → leb (at + 71) (length t) ≡ true → Writes t at bytes t′ end → Writes t at (if-room t at bytes) t′ end
+pub with-room : {t t′ : List ℕ} {at end : ℕ} (bytes : List ℕ) → leb (at + longest) (length t) ≡ true → Writes t at bytes t′ end → Writes t at (if-room t at bytes) t′ end
 with-room bytes e w = rw e w
 
-pub no-room : (t : List ℕ) (at : ℕ) (bytes : List ℕ) → leb (at + 71) (length t) ≡ false → Writes t at (if-room t at bytes) t at
+pub no-room : (t : List ℕ) (at : ℕ) (bytes : List ℕ) → leb (at + longest) (length t) ≡ false → Writes t at (if-room t at bytes) t at
 no-room t at bytes e = rw e (writes-none t at)
 
 -- what was written stands between the two places

@@ -110,8 +110,8 @@ fn put_body(out: &mut [u8], at: usize, reply: Reply) -> usize
 
 // A reply's whole line.
 fn put_line(out: &mut [u8], at: usize, line: u32, reply: Reply) -> usize
-    requires { ⌜ at + 71 ≤ length (now out) ⌝ }
-    ensures { λ r. ⌜ Writes (now (out .entry)) at (text line (said reply)) (now (out .exit)) r × (r ≤ at + 71) ⌝ }
+    requires { ⌜ at + longest ≤ length (now out) ⌝ }
+    ensures { λ r. ⌜ Writes (now (out .entry)) at (text line (said reply)) (now (out .exit)) r × (r ≤ at + longest) ⌝ }
 {
     let a = put_number(out, at, line);
     let b = put_body(out, a, reply);
@@ -121,8 +121,8 @@ fn put_line(out: &mut [u8], at: usize, line: u32, reply: Reply) -> usize
 
 // The line after which none is read.
 fn put_stop(out: &mut [u8], at: usize, line: u32) -> usize
-    requires { ⌜ at + 71 ≤ length (now out) ⌝ }
-    ensures { λ r. ⌜ Writes (now (out .entry)) at (stop line) (now (out .exit)) r × (r ≤ at + 71) ⌝ }
+    requires { ⌜ at + longest ≤ length (now out) ⌝ }
+    ensures { λ r. ⌜ Writes (now (out .entry)) at (stop line) (now (out .exit)) r × (r ≤ at + longest) ⌝ }
 {
     let word: [u8; 6] = [32, 83, 84, 79, 80, 10];
     let a = put_number(out, at, line);
@@ -141,7 +141,7 @@ pub fn has_room(out: &[u8], at: usize) -> bool
 
 // Writes the reply to a line at a place of a buffer, and says which place is behind it. Nothing is written if the longest text would not fit.
 pub fn write_reply(out: &mut [u8], at: usize, line: u32, reply: Reply) -> usize
-    ensures { λ r. ⌜ Writes (now (out .entry)) at (if-room (now (out .entry)) at (text line (said reply))) (now (out .exit)) r × (r ≤ at + 71) ⌝ }
+    ensures { λ r. ⌜ Writes (now (out .entry)) at (if-room (now (out .entry)) at (text line (said reply))) (now (out .exit)) r × (r ≤ at + longest) ⌝ }
 {
     if !has_room(out, at) {
         return at;
@@ -151,7 +151,7 @@ pub fn write_reply(out: &mut [u8], at: usize, line: u32, reply: Reply) -> usize
 
 // The same for the line after which none is read.
 pub fn write_stop(out: &mut [u8], at: usize, line: u32) -> usize
-    ensures { λ r. ⌜ Writes (now (out .entry)) at (if-room (now (out .entry)) at (stop line)) (now (out .exit)) r × (r ≤ at + 71) ⌝ }
+    ensures { λ r. ⌜ Writes (now (out .entry)) at (if-room (now (out .entry)) at (stop line)) (now (out .exit)) r × (r ≤ at + longest) ⌝ }
 {
     if !has_room(out, at) {
         return at;

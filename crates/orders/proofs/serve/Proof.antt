@@ -5,6 +5,7 @@ use Prim.Native.Nat.{_+_, _-_, _≤_}
 use native.Mathlib.Omega.{arith}
 use lib.ListN.{length}
 use lib.Seq.{length-take-le}
+use Rattle.replies.specs.Text.{longest}
 use Rattle.desk.specs.Steps.{in-order}
 use Rattle.desk.proofs.Going.{stays-in-order, goes-on}
 use Rattle.orders.proofs.serve.Statement.{statement}
@@ -45,7 +46,7 @@ returns c = ap (λ k. in-order k (c .before .before .before .before .before .bef
 
 loop-less : tie.Need-loop-less Inv-loop μ-loop
 loop-less c =
-    let room : 0 + 71 ≤ length (c .before .before .before .before .before .before .before .before .before .before .before .before .loop .out) = let same = c .before .before .before .before .before .before .before .before .before .before .before .before .loop .inv .2 in let all = c .before .before .before .before .before .before .before .before .before .before .before .before .before .before .before .before .pre .1 in omega arith in
+    let room : 0 + longest ≤ length (c .before .before .before .before .before .before .before .before .before .before .before .before .loop .out) = let same = c .before .before .before .before .before .before .before .before .before .before .before .before .loop .inv .2 in let all = c .before .before .before .before .before .before .before .before .before .before .before .before .before .before .before .before .pre .1 in omega arith in
     let l = c .before .before .before .before .before .before .before .before .before .before .before .loop-test .taken in
     let more = goes-on (c .before .before .before .before .before .before .before .before .before .before .before .before .loop .d) (c .before .before .before .before .before .before .before .before .before .before .before .before .loop .kept) (c .before .before .before .before .before .before .before .before .before .before .before .before .loop .inv .0) 0 (length (c .before .before .before .before .before .before .before .before .before .before .before .before .loop .out)) (c .before .before .before .before .before .before .before .before .before .before .before .before .loop .from) (c .before .before .before .before .before .before .before .before .before .before .before .before .before .before .before .before .args .chunk .now) (c .before .before .before .before .before .before .before .before .feed .ensures .0) room l in
     omega arith

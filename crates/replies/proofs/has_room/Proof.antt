@@ -5,12 +5,13 @@ use Prim.Native.Nat.{_+_}
 use native.Mathlib.Omega.{arith}
 use borrow.Author.Tests.{lt-leb}
 use lib.ListN.{length}
+use Rattle.replies.specs.Text.{longest}
 use Rattle.replies.proofs.Writing.{room-is}
 use Rattle.replies.proofs.has_room.Statement.{statement}
 use Rattle.replies.proofs.has_room.Tie as tie
 
 returns : tie.Need-returns
-returns c = sym (lt-leb (c .before .args .at + 71) (length (c .before .args .out .now)) (let less = c .if1 .taken in omega arith))
+returns c = sym (lt-leb (c .before .args .at + longest) (length (c .before .args .out .now)) (let less = c .if1 .taken in omega arith))
 
 sub-result : tie.Need-sub-result
 sub-result c = search needs
