@@ -9,7 +9,7 @@ use lib.ListN.{length}
 use lib.Seq.{sets}
 use Rattle.clerk.specs.Clerk as Clerks
 
--- A number in decimal, as bytes. A number has no more digits than it counts, so that it bounds the steps.
+-- A number in decimal, as bytes. Each step takes a digit off a number over 9 and so makes it less: n steps are enough.
 unfoldable pub decimal-by : (steps n : ℕ) → List ℕ
 decimal-by zero n = (48 + n) ∷ []
 decimal-by (suc steps) n = cond (ltb n 10) ((48 + n) ∷ []) (decimal-by steps (n / 10) ++ ((48 + n % 10) ∷ []))
@@ -50,6 +50,6 @@ pub record Writes (before : List ℕ) (at : ℕ) (bytes after : List ℕ) (end :
   pub written : after ≡ sets before at bytes
   pub behind : end ≡ at + length bytes
 
--- What a call that may have no room for the longest text leaves, and the place behind it.
+-- The bytes that a call writes: all of them, or none where the longest text would not fit.
 abbrev pub if-room : (buffer : List ℕ) (at : ℕ) → List ℕ → List ℕ
 if-room buffer at bytes = cond (leb (at + longest) (length buffer)) bytes []
