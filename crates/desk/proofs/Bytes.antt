@@ -10,7 +10,7 @@ use Rattle.clerk.specs.Clerk.{reply}
 use Rattle.replies.specs.Text.{text, stop, longest, Writes, if-room}
 use Rattle.replies.proofs.Writing.{writes-none}
 use Rattle.desk.specs.declared.Desk.{Desk}
-use Rattle.desk.specs.Steps.{begun-line, stopped, answered, longer, with-byte, next-desk, next-kept, prints, in-order}
+use Rattle.desk.specs.Steps.{begun-line, stopped, behind-newline, longer, with-byte, next-desk, next-kept, prints, in-order}
 
 pub writes-nothing : (t : List ℕ) (at : ℕ) (p q : Bool) → Writes t at (cond p (cond q [] []) []) t at
 writes-nothing t at true true = writes-none t at
@@ -43,7 +43,7 @@ module _ (d : Desk) (kept : List ℕ) (b : ℕ) where
     at-the-stop l = let past = lt-ltb 65535 (d .line) l in (sym (rw (o, past)), sym (rw (o, past)), sym (rw (o, past)))
 
     module _ (l : d .line ≤ 65535) where
-      pub at-a-newline : b ≡ 10 → Next (answered d kept) kept (text (d .line) (reply (d .clerk) (begun-line d kept)))
+      pub at-a-newline : b ≡ 10 → Next (behind-newline d kept) kept (text (d .line) (reply (d .clerk) (begun-line d kept)))
       at-a-newline e =
           let more = le-ltb 65535 (d .line) l in
           let newline = eq-eqb b 10 e in

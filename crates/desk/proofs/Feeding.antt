@@ -12,7 +12,7 @@ use lib.Seq.{drop-cons}
 use Rattle.replies.specs.Text.{longest, Writes}
 use Rattle.replies.proofs.Writing.{writes-both, writes-none, writes-length}
 use Rattle.desk.specs.declared.Desk.{Desk}
-use Rattle.desk.specs.Steps.{stopped, answered, next-desk, next-kept, prints, Result, still, onward, fed, in-order, fed-any, Feeds}
+use Rattle.desk.specs.Steps.{stopped, behind-newline, next-desk, next-kept, prints, Result, still, onward, fed, in-order, fed-any, Feeds}
 use Rattle.desk.proofs.Bytes.{ordered, writes-as}
 
 -- n bytes taken and some text printed before a result
@@ -46,7 +46,7 @@ fed-end d kept at size chunk i l = rw (drop-of-length-le chunk l) refl
 
 -- a desk that is in order stays so
 ordered-by : (d : Desk) (kept : List ℕ) (b : ℕ) (o s e f : Bool) → ltb 64 (d .begun) ≡ f → d .begun ≤ 65
-    → cond o d (cond s (stopped d) (cond e (answered d kept) (cond f d (record { clerk = d .clerk; line = d .line; begun = d .begun + 1; over = false })))) .begun ≤ 65
+    → cond o d (cond s (stopped d) (cond e (behind-newline d kept) (cond f d (record { clerk = d .clerk; line = d .line; begun = d .begun + 1; over = false })))) .begun ≤ 65
 ordered-by d kept b true s e f p l = l
 ordered-by d kept b false true e f p l = l
 ordered-by d kept b false false true f p l = omega arith

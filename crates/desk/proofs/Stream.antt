@@ -16,7 +16,7 @@ use Rattle.clerk.proofs.Promises.{reply-kept, after-kept}
 use Rattle.replies.specs.Text.{text, stop, longest}
 use Rattle.desk.specs.declared.Desk.{Desk}
 use Rattle.desk.specs.Desk.{lines-of, answers, output}
-use Rattle.desk.specs.Steps.{begun-line, at-first, stopped, answered, next-desk, next-kept, prints, prints-last, Result, still, onward, fed, in-order, fed-any}
+use Rattle.desk.specs.Steps.{begun-line, at-first, next-desk, next-kept, prints, prints-last, Result, still, onward, fed, in-order, fed-any}
 use Rattle.desk.specs.Runs.{Printed, ended, closed, piece-fed}
 use Rattle.desk.proofs.Feeding.{still-ordered, kept-length}
 use Rattle.desk.proofs.Going.{is-fed, fed-in-order}

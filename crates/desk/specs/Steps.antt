@@ -25,8 +25,8 @@ at-first = record { clerk = NoArea; line = 1; begun = 0; over = false }
 abbrev pub stopped : Desk → Desk
 stopped d = record { clerk = d .clerk; line = d .line; begun = d .begun; over = true }
 
-abbrev pub answered : Desk → (kept : List ℕ) → Desk
-answered d kept = record { clerk = after (d .clerk) (begun-line d kept); line = d .line + 1; begun = 0; over = false }
+abbrev pub behind-newline : Desk → (kept : List ℕ) → Desk
+behind-newline d kept = record { clerk = after (d .clerk) (begun-line d kept); line = d .line + 1; begun = 0; over = false }
 
 abbrev pub longer : Desk → Desk
 longer d = cond (ltb 64 (d .begun)) d (record { clerk = d .clerk; line = d .line; begun = d .begun + 1; over = false })
@@ -36,7 +36,7 @@ with-byte d kept b = cond (ltb 64 (d .begun)) kept (set kept (d .begun) b)
 
 -- The desk, what is kept, and what is printed, behind a byte.
 abbrev pub next-desk : Desk → (kept : List ℕ) → (b : ℕ) → Desk
-next-desk d kept b = cond (d .over) d (cond (ltb 65535 (d .line)) (stopped d) (cond (eqb b 10) (answered d kept) (longer d)))
+next-desk d kept b = cond (d .over) d (cond (ltb 65535 (d .line)) (stopped d) (cond (eqb b 10) (behind-newline d kept) (longer d)))
 
 abbrev pub next-kept : Desk → (kept : List ℕ) → (b : ℕ) → List ℕ
 next-kept d kept b = cond (d .over) kept (cond (ltb 65535 (d .line)) kept (cond (eqb b 10) kept (with-byte d kept b)))

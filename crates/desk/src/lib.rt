@@ -5,7 +5,7 @@ ghost use Prim.Native.Nat.{_+_, _≤_};
 ghost use lib.ListN.{length, drop};
 ghost use Rattle.clerk.specs.Clerk.{after, reply};
 ghost use Rattle.replies.specs.Text.{text, longest, Writes, if-room};
-ghost use Rattle.desk.specs.Steps.{begun-line, at-first, stopped, answered, longer, with-byte, next-desk, next-kept, prints, in-order, fed-any, prints-last-any, Feeds};
+ghost use Rattle.desk.specs.Steps.{begun-line, at-first, stopped, behind-newline, longer, with-byte, next-desk, next-kept, prints, in-order, fed-any, prints-last-any, Feeds};
 
 // Where the desk stands: the clerk, the number of the line that is begun or next, how many bytes of it are kept, and whether no more is read.
 pub struct Desk {
@@ -92,7 +92,7 @@ fn tell(desk: Desk, kept: &[u8], out: &mut [u8], at: usize) -> Told
 // The line that is begun is answered, and the next one is begun.
 fn answer(desk: Desk, kept: &[u8], out: &mut [u8], at: usize) -> Stepped
     requires { ⌜ (desk .begun ≤ 65) × (65 ≤ length (now kept)) × (desk .line ≤ 65535) ⌝ }
-    ensures { λ r. ⌜ (r .desk ≡ answered desk (now (kept .entry)))
+    ensures { λ r. ⌜ (r .desk ≡ behind-newline desk (now (kept .entry)))
         × Writes (now (out .entry)) at (if-room (now (out .entry)) at (text (desk .line) (reply (desk .clerk) (begun-line desk (now (kept .entry)))))) (now (out .exit)) (r .at) × (r .at ≤ at + longest) ⌝ }
 {
     let told = tell(desk, kept, out, at);
