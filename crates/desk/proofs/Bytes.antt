@@ -1,4 +1,5 @@
--- What is written where nothing is printed, and the tests of a desk.
+-- What a byte does, case by case: to a desk that reads no more, at a line 65,536, at a newline, at another byte, each with what is then kept and printed.
+-- Before it, what is written where nothing is printed and where there is room, and what a desk in order has.
 use mathlib.Core.Bool.{Bool, true, false, cond, and-eq-true-iff}
 use mathlib.Core.List.{List, []}
 use mathlib.Core.Path.{_≡_, refl, sym, subst}

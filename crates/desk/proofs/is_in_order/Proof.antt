@@ -1,4 +1,4 @@
--- `desk::is_in_order` meets its contract.
+-- `desk::is_in_order` meets its contract: its two tests are those of the definition.
 use mathlib.Core.Path.{sym}
 use borrow.Author.Tests.{le-leb, lt-leb}
 use Rattle.desk.proofs.is_in_order.Statement.{statement}

@@ -1,4 +1,4 @@
--- `desk::keep` meets its contract.
+-- `desk::keep` meets its contract: its test is that of the definition, and a byte that is kept has its place.
 use borrow.Author.Needs.{needs}
 use mathlib.Core.Path.{sym}
 use borrow.Author.Tests.{lt-ltb, le-ltb}

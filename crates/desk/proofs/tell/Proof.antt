@@ -3,7 +3,6 @@ use borrow.Author.Needs.{needs}
 use Rattle.desk.proofs.tell.Statement.{statement}
 use Rattle.desk.proofs.tell.Tie as tie
 use mathlib.Core.Path.{sym, subst}
-use Prim.Native.Nat.{_+_}
 use native.Mathlib.Omega.{arith}
 use lib.Seq.{length-take-le}
 use Rattle.clerk.specs.Clerk.{Said}

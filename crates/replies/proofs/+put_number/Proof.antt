@@ -2,12 +2,11 @@
 -- The measure is the number.
 use mathlib.Core.List.{List}
 use mathlib.Core.Path.{ap, subst⁻¹, _∙_}
-use Prim.Native.Nat.{_+_, _%_}
+use Prim.Native.Nat.{ℕ, _+_, _%_, _<_}
 use native.Mathlib.Omega.{arith}
 use lib.ListN.{length, set, length-set}
 use Rattle.replies.specs.Text.{Writes}
 use Rattle.replies.proofs.Writing.{one-digit, more-digits, digits-more, writes-byte, writes-both}
-use Prim.Native.Nat.{ℕ, _<_}
 use borrow.Fn.Kinds.{In}
 use borrow.Fn.PlainCycle.{Measures, is, falls, and}
 use Rattle.replies.proofs.put_number.Reads as put-number

@@ -1,4 +1,5 @@
--- `replies::put_body` meets its contract, case by case.
+-- `replies::put_body` meets its contract: in each arm the reply is known to be that variant, so that what it says is what the arm's call writes. The
+-- longest body is that of AREA.
 use borrow.Author.Needs.{needs}
 use mathlib.Core.List.{[], _∷_}
 use mathlib.Core.Path.{sym, ap, subst⁻¹, _∙_}
