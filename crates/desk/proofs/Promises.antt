@@ -1,6 +1,6 @@
 -- What the desk's promises come to: two results that meet one are one, and a reader that repeats its first answer is turned away, as are wrong programs
 -- for the small functions.
-use mathlib.Core.Bool.{Bool, true, false}
+use mathlib.Core.Bool.{true, false}
 use mathlib.Core.List.{List, [], _∷_, _++_}
 use mathlib.Core.Path.{_≡_, sym, ap, _∙_}
 use Prim.Native.Nat.{ℕ, _+_, _≤_}
@@ -10,7 +10,7 @@ use Rattle.lines.specs.Lines.{fields, all-digits, value-on, is-number, numeral,
 use Rattle.clerk.specs.declared.Clerk.the-variants.{NoArea}
 use Rattle.clerk.specs.Clerk.{Said, after, reply}
 use Rattle.replies.specs.Text.{decimal-by, decimal, text, longest, Writes, if-room}
-use Rattle.replies.proofs.Promises.{writes-one}
+use Rattle.replies.proofs.Promises.{writes-one, bit}
 use Rattle.desk.specs.declared.Desk.{Desk}
 use Rattle.desk.specs.Desk.{lines-of, answers, output}
 use Rattle.desk.specs.Steps.{at-first, stopped, prints-last-any, Result, Feeds}
@@ -48,10 +48,6 @@ unfolding first-repeated repeated output answers lines-of text decimal decimal-b
 repeats-its-first promise =
     let second : _≡_ {A = ℕ} 54 55 = ap (λ (t : List ℕ). getD t 22 0) (promise (10 ∷ 78 ∷ 32 ∷ 49 ∷ [])) in
     omega arith
-
-abbrev bit : Bool → ℕ
-bit true = 1
-bit false = 0
 
 -- Turned away, of `opened`: one that counts the lines from 0, and one that reads none.
 pub counts-from-nothing : record { clerk = NoArea; line = 0; begun = 0; over = false } ≡ at-first → ⊥

@@ -14,7 +14,8 @@ use Rattle.replies.specs.Text.{decimal-by, decimal, text, stop, longest,
 pub writes-one : {before bytes one other : List ℕ} {at end end′ : ℕ} → Writes before at bytes one end → Writes before at bytes other end′ → (one ≡ other) × (end ≡ end′)
 writes-one w w′ = (w .written ∙ sym (w′ .written), w .behind ∙ sym (w′ .behind))
 
-abbrev bit : Bool → ℕ
+-- A test as a number, to tell its two results apart.
+abbrev pub bit : Bool → ℕ
 bit true = 1
 bit false = 0
 
