@@ -53,12 +53,12 @@ fn check_choice(
     ensures { λ r. ⌜ r ≡ checked «by_square» (area .w) (now (table .entry)) (block-at along across turned back a b) at «so_far» ⌝ }
 {
     let k = Placed {
-        along: along,
-        across: across,
-        turned: turned,
-        back: back,
-        a: a,
-        b: b,
+        along,
+        across,
+        turned,
+        back,
+        a,
+        b,
     };
     let case = division::choose(a, b);
     match case {

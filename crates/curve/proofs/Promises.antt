@@ -7,10 +7,9 @@ use Prim.Native.Nat.{ℕ, _*_, _^_, _≤_, _<_}
 use native.Mathlib.Omega.{arith}
 use borrow.Author.Tests.{lt-ltb, le-leb, ltb-true, ltb-false}
 use lib.Dec.{ltb, lit<, lit≤}
-use lib.ListN.{getD}
 use Rattle.terms.specs.declared.Refusal.{Refusal}
-use Rattle.terms.specs.Terms.{accepted, Figures, answered}
-use Rattle.terms.proofs.Laws.{limits, refusal-one, refusal-some}
+use Rattle.terms.specs.Terms.{accepted, answered}
+use Rattle.terms.proofs.Laws.{limits, refusal-one, refusal-some, value}
 use Rattle.division.specs.declared.Choice.the-variants.{UCut}
 use Rattle.division.specs.Division.{Square, square, whole, choice, parts-of, square-of, number-of, blocks-holding}
 use Rattle.division.specs.Division.Rules.{parts-are, in-three}
@@ -41,10 +40,6 @@ module _ (w h : ℕ) (yes : accepted w h ≡ true) where
       let all = limits w h yes in
       let few = at-most-54 w h (all .w-least) (all .w-most) (all .h-least) (all .h-most) (square x y) in
       rw (yes, lt-ltb x w l, lt-ltb y h m, le-leb (blocks-holding (whole w h) (square x y)) 64 (omega arith))
-
--- the i-th value of some figures
-abbrev value : ℕ → Figures → ℕ
-value i f = getD (f .values) i 0
 
 -- an answered lookup was asked for a number, or a square, of an accepted area
 number-by : (w h n : ℕ) (values : List ℕ) (a b : Bool) → accepted w h ≡ a → ltb n (w * h) ≡ b → number-to-square w h n ≡ answered values

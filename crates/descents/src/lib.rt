@@ -117,12 +117,12 @@ pub fn descend(
     ensures { λ r. ⌜ r ≡ descent-word (block-at along across turned back a b) i above ⌝ }
 {
     let k = Placed {
-        along: along,
-        across: across,
-        turned: turned,
-        back: back,
-        a: a,
-        b: b,
+        along,
+        across,
+        turned,
+        back,
+        a,
+        b,
     };
     let case = division::choose(a, b);
     match case {

@@ -6,11 +6,12 @@ use mathlib.Core.Path.{_≡_, sym, ap, _∙_}
 use Prim.Native.Nat.{ℕ, _+_, _≤_}
 use native.Mathlib.Omega.{arith}
 use lib.ListN.{getD, replicate}
+use Rattle.terms.proofs.Laws.{bit}
 use Rattle.lines.specs.Lines.{fields, all-digits, value-on, is-number, numeral, same-bytes, shaped, request}
 use Rattle.clerk.specs.declared.Clerk.the-variants.{NoArea}
 use Rattle.clerk.specs.Clerk.{Said, after, reply}
 use Rattle.replies.specs.Text.{decimal-by, decimal, text, longest, Writes, if-room}
-use Rattle.replies.proofs.Promises.{writes-one, bit}
+use Rattle.replies.proofs.Promises.{writes-one}
 use Rattle.desk.specs.declared.Desk.{Desk}
 use Rattle.desk.specs.Desk.{lines-of, answers, output}
 use Rattle.desk.specs.Steps.{at-first, stopped, prints-last-any, Result, Feeds}

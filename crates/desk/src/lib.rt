@@ -7,6 +7,12 @@ ghost use Rattle.clerk.specs.Clerk.{after, reply};
 ghost use Rattle.replies.specs.Text.{text, longest, Writes, if-room};
 ghost use Rattle.desk.specs.Steps.{begun-line, at-first, stopped, behind-newline, longer, with-byte, next-desk, next-kept, prints, in-order, fed-any, prints-last-any, Feeds};
 
+// How many bytes of a line are kept: they decide what it is answered.
+const KEPT: usize = 65;
+
+// The last line that is answered.
+const LAST_LINE: u32 = 65535;
+
 // Where the desk stands: the clerk, the number of the line that is begun or next, how many bytes of it are kept, and whether no more is read.
 pub struct Desk {
     pub clerk: Clerk,
@@ -46,7 +52,7 @@ pub fn closed(desk: Desk) -> Desk
     }
 }
 
-// A byte of a line is kept, if it is among the first 65: they decide.
+// A byte of a line is kept, if it is among those that decide.
 fn keep(desk: Desk, kept: &mut [u8], b: u8) -> Desk
     requires { ⌜ 65 ≤ length (now kept) ⌝ }
     ensures { λ r. ⌜ (r ≡ longer desk) × (now (kept .exit) ≡ with-byte desk (now (kept .entry)) b) ⌝ }
@@ -118,7 +124,7 @@ fn step(desk: Desk, kept: &mut [u8], b: u8, out: &mut [u8], at: usize) -> Steppe
     if desk.over {
         return Stepped { desk: desk, at: at };
     }
-    if 65535 < desk.line {
+    if LAST_LINE < desk.line {
         let end = replies::write_stop(out, at, desk.line);
         let last = closed(desk);
         return Stepped {
@@ -126,7 +132,7 @@ fn step(desk: Desk, kept: &mut [u8], b: u8, out: &mut [u8], at: usize) -> Steppe
             at: end,
         };
     }
-    if b == 10 {
+    if b == b'\n' {
         return answer(desk, kept, out, at);
     }
     let next = keep(desk, kept, b);
@@ -140,12 +146,12 @@ pub struct Fed {
     pub at: usize,
 }
 
-// Whether a desk has kept what it counts, in a place for 65 bytes.
+// Whether a desk has kept what it counts, in a place for as many bytes.
 fn is_in_order(desk: Desk, kept: &[u8]) -> bool
     ensures { λ r. ⌜ r ≡ in-order desk (now (kept .entry)) ⌝ }
 {
-    if desk.begun <= 65 {
-        return 65 <= kept.len();
+    if desk.begun <= KEPT {
+        return KEPT <= kept.len();
     }
     false
 }
@@ -205,7 +211,7 @@ pub fn finish(desk: Desk, kept: &[u8], out: &mut [u8], at: usize) -> usize
     if desk.begun == 0 {
         return at;
     }
-    if desk.line <= 65535 {
+    if desk.line <= LAST_LINE {
         let told = tell(desk, kept, out, at);
         return told.at;
     }

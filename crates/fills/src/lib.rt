@@ -45,12 +45,12 @@ fn fill_choice(
     ensures { λ r. ⌜ (now (table .exit) ≡ filled-with «by_square» (area .w) (now (table .entry)) (block-at along across turned back a b) at) × (r ≡ length (blocks (block-at along across turned back a b))) ⌝ }
 {
     let k = Placed {
-        along: along,
-        across: across,
-        turned: turned,
-        back: back,
-        a: a,
-        b: b,
+        along,
+        across,
+        turned,
+        back,
+        a,
+        b,
     };
     let case = division::choose(a, b);
     match case {

@@ -1,16 +1,12 @@
 -- What the promise of `is_area` turns away: a test of the length alone, which AREB passes, and one of the first four bytes alone, which AREAX passes.
-use mathlib.Core.Bool.{Bool, true, false}
 use mathlib.Core.List.{List, [], _∷_}
 use mathlib.Core.Path.{_≡_, ap}
 use Prim.Native.Nat.{ℕ}
 use native.Mathlib.Omega.{arith}
 use lib.Dec.{eqb}
 use lib.ListN.{length, take}
+use Rattle.terms.proofs.Laws.{bit}
 use Rattle.lines.specs.Lines.{AREA, same-bytes}
-
-abbrev bit : Bool → ℕ
-bit true = 1
-bit false = 0
 
 pub length-alone : ((s : List ℕ) → eqb (length s) 4 ≡ same-bytes s AREA) → ⊥
 unfolding same-bytes

@@ -1,23 +1,19 @@
 -- What the promises come to: two results that meet one are one. And what they turn away: each wrong program is met by a buffer in which it would have to
 -- leave two things at once.
-use mathlib.Core.Bool.{Bool, true, false}
+use mathlib.Core.Bool.{true}
 use mathlib.Core.List.{List, [], _∷_}
 use mathlib.Core.Path.{_≡_, sym, ap, _∙_}
 use Prim.Native.Nat.{ℕ, _+_}
 use native.Mathlib.Omega.{arith}
 use lib.Dec.{leb}
 use lib.ListN.{replicate}
+use Rattle.terms.proofs.Laws.{bit}
 use Rattle.clerk.specs.Clerk.{says, Refused}
 use Rattle.replies.specs.Text.{decimal-by, decimal, text, stop, longest, Writes, if-room}
 
 -- Two results that meet the promise of `write_reply`, of `write_stop` or of a call that writes as they do are one.
 pub writes-one : {before bytes one other : List ℕ} {at end end′ : ℕ} → Writes before at bytes one end → Writes before at bytes other end′ → (one ≡ other) × (end ≡ end′)
 writes-one w w′ = (w .written ∙ sym (w′ .written), w .behind ∙ sym (w′ .behind))
-
--- A test as a number, to tell its two results apart.
-abbrev pub bit : Bool → ℕ
-bit true = 1
-bit false = 0
 
 -- Of `has_room`: one that always finds room, and one that asks for a single byte.
 pub always-room : ((at size : ℕ) → true ≡ leb (at + longest) size) → ⊥

@@ -8,6 +8,9 @@ ghost use lib.ListN.{length};
 ghost use Rattle.clerk.specs.Clerk.{says, Area-set, Cell, Number, Refused, said};
 ghost use Rattle.replies.specs.Text.{decimal, spaced, body, text, stop, longest, Writes, if-room};
 
+// The longest text: a line's number and a reply with five numbers, each of ten digits.
+const LONGEST: usize = 71;
+
 // Copies bytes.
 fn put_bytes(out: &mut [u8], at: usize, s: &[u8]) -> usize
     requires { ⌜ at + length (now s) ≤ length (now out) ⌝ }
@@ -38,7 +41,7 @@ fn put_spaced(out: &mut [u8], at: usize, n: u32) -> usize
     requires { ⌜ at + 11 ≤ length (now out) ⌝ }
     ensures { λ r. ⌜ Writes (now (out .entry)) at (spaced n) (now (out .exit)) r × (r ≤ at + 11) ⌝ }
 {
-    out[at] = 32;
+    out[at] = b' ';
     put_number(out, at + 1, n)
 }
 
@@ -47,7 +50,7 @@ fn put_area(out: &mut [u8], at: usize, w: u32, h: u32, squares: u32, x: u32, y: 
     requires { ⌜ at + 60 ≤ length (now out) ⌝ }
     ensures { λ r. ⌜ Writes (now (out .entry)) at (body (says Area-set (w ∷ h ∷ squares ∷ x ∷ y ∷ []))) (now (out .exit)) r × (r ≤ at + 60) ⌝ }
 {
-    let word: [u8; 5] = [32, 65, 82, 69, 65];
+    let word: [u8; 5] = *b" AREA";
     let a = put_bytes(out, at, &word[..]);
     let b = put_spaced(out, a, w);
     let c = put_spaced(out, b, h);
@@ -61,7 +64,7 @@ fn put_cell(out: &mut [u8], at: usize, x: u32, y: u32, blocks: u32) -> usize
     requires { ⌜ at + 38 ≤ length (now out) ⌝ }
     ensures { λ r. ⌜ Writes (now (out .entry)) at (body (says Cell (x ∷ y ∷ blocks ∷ []))) (now (out .exit)) r × (r ≤ at + 38) ⌝ }
 {
-    let word: [u8; 5] = [32, 67, 69, 76, 76];
+    let word: [u8; 5] = *b" CELL";
     let a = put_bytes(out, at, &word[..]);
     let b = put_spaced(out, a, x);
     let c = put_spaced(out, b, y);
@@ -73,7 +76,7 @@ fn put_found(out: &mut [u8], at: usize, number: u32, blocks: u32) -> usize
     requires { ⌜ at + 29 ≤ length (now out) ⌝ }
     ensures { λ r. ⌜ Writes (now (out .entry)) at (body (says Number (number ∷ blocks ∷ []))) (now (out .exit)) r × (r ≤ at + 29) ⌝ }
 {
-    let word: [u8; 7] = [32, 78, 85, 77, 66, 69, 82];
+    let word: [u8; 7] = *b" NUMBER";
     let a = put_bytes(out, at, &word[..]);
     let b = put_spaced(out, a, number);
     put_spaced(out, b, blocks)
@@ -84,7 +87,7 @@ fn put_refused(out: &mut [u8], at: usize, refusal: u32) -> usize
     requires { ⌜ at + 19 ≤ length (now out) ⌝ }
     ensures { λ r. ⌜ Writes (now (out .entry)) at (body (says Refused (refusal ∷ []))) (now (out .exit)) r × (r ≤ at + 19) ⌝ }
 {
-    let word: [u8; 8] = [32, 82, 69, 70, 85, 83, 69, 68];
+    let word: [u8; 8] = *b" REFUSED";
     let a = put_bytes(out, at, &word[..]);
     put_spaced(out, a, refusal)
 }
@@ -115,7 +118,7 @@ fn put_line(out: &mut [u8], at: usize, line: u32, reply: Reply) -> usize
 {
     let a = put_number(out, at, line);
     let b = put_body(out, a, reply);
-    out[b] = 10;
+    out[b] = b'\n';
     b + 1
 }
 
@@ -124,7 +127,7 @@ fn put_stop(out: &mut [u8], at: usize, line: u32) -> usize
     requires { ⌜ at + longest ≤ length (now out) ⌝ }
     ensures { λ r. ⌜ Writes (now (out .entry)) at (stop line) (now (out .exit)) r × (r ≤ at + longest) ⌝ }
 {
-    let word: [u8; 6] = [32, 83, 84, 79, 80, 10];
+    let word: [u8; 6] = *b" STOP\n";
     let a = put_number(out, at, line);
     put_bytes(out, a, &word[..])
 }
@@ -136,7 +139,7 @@ pub fn has_room(out: &[u8], at: usize) -> bool
     if out.len() < at {
         return false;
     }
-    71 <= out.len() - at
+    LONGEST <= out.len() - at
 }
 
 // Writes the reply to a line at a place of a buffer, and says which place is behind it. Nothing is written if the longest text would not fit.

@@ -65,12 +65,7 @@ pub fn search(a: u32, b: u32, u: u32, v: u32, before: u32, above: u32) -> u64
     requires { ⌜ Searches (spot-at a b u v) before above ⌝ }
     ensures { λ r. ⌜ r ≡ search-word (spot-at a b u v) before above ⌝ }
 {
-    let s = Spot {
-        a: a,
-        b: b,
-        u: u,
-        v: v,
-    };
+    let s = Spot { a, b, u, v };
     let case = division::choose(a, b);
     match case {
         Choice::StraightRun => number_word(before + u, above + 1),

@@ -9,8 +9,8 @@ use borrow.Author.Tests.{eqb-true, eqb-false}
 use lib.Dec.{eqb, lit≤, lit<}
 use lib.ListN.{length, getD}
 use Rattle.division.specs.Division.Small.{blocks-two}
-use Rattle.terms.specs.Terms.{accepted, Figures, answered}
-use Rattle.terms.proofs.Laws.{limits, refusal-one, refusal-some}
+use Rattle.terms.specs.Terms.{accepted, answered}
+use Rattle.terms.proofs.Laws.{limits, refusal-one, refusal-some, value}
 use Rattle.division.specs.Division.{square, whole, square-of, number-of, blocks, +x, +y}
 use Rattle.division.proofs.Blocks.{whole-inside, few-blocks}
 use Rattle.tables.specs.declared.FillAnswer as FillAnswers
@@ -71,10 +71,6 @@ module _ (w h : ℕ) (yes : accepted w h ≡ true) (kind : Bool) (t : List ℕ) 
 
   pub filled-then-right : t ≡ due → check w h due t ≡ answered (0 ∷ 0 ∷ 0 ∷ [])
   filled-then-right e = judged-is ∙ ap answered (judged-right 0 due t (size ∙ sym long) (λ i l. ap (λ zs. getD zs i 0) e))
-
--- the i-th value of some figures
-abbrev value : ℕ → Figures → ℕ
-value i f = getD (f .values) i 0
 
 -- Demand 3: a fill's count is the division's own, by its promise, and at most 2 · squares - 1.
 few-by : (w h : ℕ) (t : List ℕ) (n : ℕ) (a b : Bool) → accepted w h ≡ a → eqb (length t) (w * h) ≡ b → fill w h t ≡ answered (n ∷ []) → n ≤ 2 * (w * h) - 1

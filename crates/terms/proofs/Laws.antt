@@ -1,14 +1,15 @@
 -- What the terms say: an accepted area's lengths and squares, and that a refusal's number names it alone and is never 0.
-use mathlib.Core.Bool.{true, cond, and-eq-true-iff}
+use mathlib.Core.Bool.{Bool, true, false, cond, and-eq-true-iff}
 use mathlib.Core.Path.{_≡_, refl, sym, ap, _∙_}
 use Prim.Native.Nat.{ℕ, _*_, _≤_, _<_}
 use native.Mathlib.Nat.{mul-le-mul}
 use borrow.Author.Tests.{leb-true}
 use lib.Dec.{leb, eqb}
+use lib.ListN.{getD}
 use native.Mathlib.Omega.{arith}
 use Rattle.terms.specs.declared.Refusal.{Refusal}
 use Rattle.terms.specs.declared.Refusal.the-variants.{AreaLimit, SquareOutside, NumberOutside, TableLength, NotANumber, WrongShape, NoArea, LongLine, TooDeep}
-use Rattle.terms.specs.Terms.{length-accepted, accepted, refusal-number}
+use Rattle.terms.specs.Terms.{length-accepted, accepted, refusal-number, Figures}
 
 pub record Limits (w h : ℕ) : Type 0 where
   pub w-least : 1 ≤ w
@@ -69,3 +70,11 @@ refusal-some WrongShape e = omega arith
 refusal-some NoArea e = omega arith
 refusal-some LongLine e = omega arith
 refusal-some TooDeep e = omega arith
+
+-- For telling two results apart: a test as a number, and the i-th value of some figures.
+abbrev pub bit : Bool → ℕ
+bit true = 1
+bit false = 0
+
+abbrev pub value : ℕ → Figures → ℕ
+value i f = getD (f .values) i 0

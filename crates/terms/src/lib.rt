@@ -2,6 +2,9 @@
 ghost use mathlib.Core.Path.{_≡_};
 ghost use Rattle.terms.specs.Terms.{length-accepted, accepted, refusal-number};
 
+// The longest width or height.
+const LONGEST_SIDE: u32 = 65535;
+
 // An area's width and height.
 pub struct Area {
     pub w: u32,
@@ -28,7 +31,7 @@ fn is_length(n: u32) -> bool
     if n < 1 {
         return false;
     }
-    n <= 65535
+    n <= LONGEST_SIDE
 }
 
 // Whether an area is within the limit.
