@@ -11,8 +11,9 @@ use Rattle.division.specs.declared.Choice.the-variants.{StraightRun, StraightSi
 use Rattle.division.specs.declared.Placed.{Placed}
 use Rattle.division.specs.Division.{Square, square, moved, Block, choice, even-half, First, Second, A, B, C, part, parts, parts-of, square-of, blocks-holding}
 use Rattle.division.specs.Division.Inside.{Sized, Inside}
-use Rattle.division.specs.Division.Rules.{All, Chosen, is-run, is-side, is-long, is-u, chosen, Smaller, smaller, parts-are, halves, long-lengths, u-lengths, run-length, side-length, rule}
+use Rattle.division.specs.Division.Rules.{All, Chosen, is-run, is-side, is-long, is-u, chosen, Smaller, smaller, parts-are, halves}
 use Rattle.division.specs.Forms.{block, stepped-to}
+use Rattle.division.proofs.Cases.{long-lengths, u-lengths, run-length, side-length, rule}
 use Rattle.division.proofs.Sums.{total, all-right}
 use Rattle.division.proofs.Cuts.{area, long-areas}
 use Rattle.division.proofs.Once.{square-held}

@@ -9,9 +9,10 @@ use native.Mathlib.Omega.{arith}
 use lib.ListN.{length, getD}
 use Rattle.division.specs.Division.{Square, square, Direction, Block, parts, moved, row, curve, within, holds, one, count, same, square-of, number-of}
 use Rattle.division.specs.Division.Inside.{Sized, Paired, Room, Inside}
-use Rattle.division.specs.Division.Rules.{All, All-use, induction, Shape, in-run, in-side, cut, shape}
+use Rattle.division.specs.Division.Rules.{All}
+use Rattle.division.proofs.Cases.{induction, Shape, in-run, in-side, cut, shape}
 use Rattle.division.proofs.Plane.{turned, room-on, one-and, one-le, min-split, within-none, within-split, within-across, same-within}
-use Rattle.division.proofs.Sums.{total-all, count-joined, length-joined}
+use Rattle.division.proofs.Sums.{total-all, count-joined, length-joined, All-use}
 use Rattle.division.proofs.Cuts.{area, areas, inside-parts, holds-parts}
 use Rattle.division.proofs.Places.{counted, found, unique}
 

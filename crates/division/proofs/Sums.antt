@@ -34,6 +34,10 @@ unfolding flatten
 length-joined g [] = refl
 length-joined g (y ∷ ys) = length-append (g y) (flatten (map g ys)) ∙ ap (λ n. length (g y) + n) (length-joined g ys)
 
+pub All-use : {X : Type 0} (P Q : X → Type 0) (zs : List X) → All (λ z. P z → Q z) zs → All P zs → All Q zs
+All-use P Q [] f h = tt
+All-use P Q (z ∷ zs) f h = (f .0 (h .0), All-use P Q zs (f .1) (h .1))
+
 all-append : {X : Type 0} (P : X → Type 0) (xs ys : List X) → All P xs → All P ys → All P (xs ++ ys)
 all-append P [] ys h g = g
 all-append P (x ∷ xs) ys h g = (h .0, all-append P xs ys (h .1) g)

@@ -8,8 +8,8 @@ use lib.ListN.{length, length-append}
 use Rattle.division.specs.declared.Choice.the-variants.{StraightSide, LongCut, UCut}
 use Rattle.division.specs.declared.Placed.{Placed}
 use Rattle.division.specs.Division.{Block, choice, First, Second, A, B, C, part, blocks}
-use Rattle.division.specs.Division.Rules.{rule}
 use Rattle.division.specs.Forms.{block}
+use Rattle.division.proofs.Cases.{rule}
 use Rattle.division.proofs.Blocks.{few-blocks}
 use Rattle.leaves.specs.Walk.{exchanged, Fits}
 use Rattle.leaves.proofs.Entries.{run-count}

@@ -10,8 +10,8 @@ use Rattle.division.specs.declared.Choice.the-variants.{StraightRun}
 use Rattle.division.specs.declared.Placed.{Placed}
 use Rattle.division.specs.Division.{Square, Block, square, Direction, choice, moved, row, blocks}
 use Rattle.division.specs.Division.Inside.{Inside}
-use Rattle.division.specs.Division.Rules.{rule, run-length}
 use Rattle.division.specs.Forms.{block, stepped-to}
+use Rattle.division.proofs.Cases.{rule, run-length}
 use Rattle.division.proofs.Plane.{moved-none}
 use Rattle.division.proofs.Once.{row-length}
 use Rattle.division.proofs.Descent.{row-more}

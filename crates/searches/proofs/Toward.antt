@@ -10,8 +10,8 @@ use Rattle.division.specs.declared.Choice.the-variants.{StraightRun, StraightSi
 use Rattle.division.specs.declared.Spot.{Spot}
 use Rattle.division.specs.Division.{square, whole, choice, even-half, First, Second, A, B, C, part, parts-of}
 use Rattle.division.specs.Division.Inside.{Sized, x-y, Inside}
-use Rattle.division.specs.Division.Rules.{long-lengths, u-lengths, run-length, side-length}
 use Rattle.division.specs.Forms.{entered}
+use Rattle.division.proofs.Cases.{long-lengths, u-lengths, run-length, side-length}
 use Rattle.division.proofs.Blocks.{whole-inside}
 use Rattle.division.proofs.Local.{Within, inner, Lies, in-first, in-second, in-a, in-b, in-c, squares-of, lies-smaller, lies-inside, lies-fits, area-run, area-side, area-cut}
 use Rattle.division.proofs.Walks.{a-limit, b-limit, Sums-fit, sums-fit}

@@ -6,8 +6,9 @@ use Prim.Native.Nat.{ℕ, _-_, _*_}
 use native.Mathlib.Omega.{arith}
 use lib.Dec.{leb}
 use Rattle.division.specs.Division.{Block, even-half, First, Second, part}
-use Rattle.division.specs.Division.Rules.{halves, long-lengths}
+use Rattle.division.specs.Division.Rules.{halves}
 use Rattle.division.specs.Forms.{block}
+use Rattle.division.proofs.Cases.{long-lengths}
 use Rattle.division.proofs.Walks.{a-limit, b-limit, product-limit}
 use Rattle.descents.specs.Descents.{Enters}
 use Rattle.descents.proofs.Into.{rest-of, long-enters}

@@ -2,8 +2,9 @@
 use borrow.Author.Needs.{needs}
 use native.Mathlib.Omega.{arith}
 use Prim.Native.Nat.{_-_}
-use Rattle.division.specs.Division.Rules.{halves, u-lengths}
+use Rattle.division.specs.Division.Rules.{halves}
 use Rattle.division.specs.Forms.{block}
+use Rattle.division.proofs.Cases.{u-lengths}
 use Rattle.division.proofs.Walks.{steps-along, steps-across, c-block}
 use Rattle.division.proofs.part_c.Statement.{statement}
 use Rattle.division.proofs.part_c.Tie as tie

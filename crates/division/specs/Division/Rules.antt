@@ -1,8 +1,8 @@
--- The rules of the division as laws, with no bound on how deep the cuts go: what the curve and the blocks of a block are, by its case, and
--- the one induction over blocks that every further law uses. A sized block has both lengths at least 1.
+-- The rules of the division as laws, with no bound on how deep the cuts go: what the curve and the blocks of a block are, from those of its parts.
+-- A sized block has both lengths at least 1. They stand beside the definitions, since the bound can be opened only here.
 use mathlib.Core.Bool.{Bool, true, false, _&&_, cond}
-use mathlib.Core.List.{List, [], _∷_, _++_, map, flatten, append-nil}
-use mathlib.Core.Path.{_≡_, refl, ap, ap₂, subst, subst⁻¹}
+use mathlib.Core.List.{List, [], _∷_, map, flatten}
+use mathlib.Core.Path.{_≡_, refl, ap, ap₂, subst⁻¹}
 use Prim.Native.Nat.{ℕ, zero, suc, _+_, _-_, _*_, _/_, _%_, _≤_, _<_}
 use native.Mathlib.Nat.{le-refl, mul-assoc, mul-comm, mul-le-mul}
 use native.Mathlib.Omega.{arith}
@@ -10,7 +10,7 @@ use borrow.Author.Tests.{ltb-true, ltb-false, eqb-true, eqb-false}
 use lib.Dec.{ltb, eqb}
 use Rattle.division.specs.declared.Choice.{Choice}
 use Rattle.division.specs.declared.Choice.the-variants.{StraightRun, StraightSide, LongCut, UCut}
-use Rattle.division.specs.Division.{Block, choice, even-half, First, Second, A, B, C, part, parts, parts-of, row, curve-by, down, curve, blocks}
+use Rattle.division.specs.Division.{Block, choice, even-half, part, parts, parts-of, curve-by, down, curve, blocks}
 use Rattle.division.specs.Division.Inside.{Sized}
 
 -- P of each of a list
@@ -21,10 +21,6 @@ All P (z ∷ zs) = P z × All P zs
 pub All-map : {X : Type 0} {P Q : X → Type 0} → ((z : X) → P z → Q z) → (zs : List X) → All P zs → All Q zs
 All-map f [] h = tt
 All-map f (z ∷ zs) h = (f z (h .0), All-map f zs (h .1))
-
-pub All-use : {X : Type 0} (P Q : X → Type 0) (zs : List X) → All (λ z. P z → Q z) zs → All P zs → All Q zs
-All-use P Q [] f h = tt
-All-use P Q (z ∷ zs) f h = (f .0 (h .0), All-use P Q zs (f .1) (h .1))
 
 map-all : {X Y : Type 0} (f g : X → Y) (zs : List X) → All (λ z. f z ≡ g z) zs → map f zs ≡ map g zs
 map-all f g [] h = refl
@@ -64,50 +60,6 @@ chosen-by a b false false false ha hb p q o =
 
 pub chosen : (k : Block) → Sized k → Chosen (k .a) (k .b)
 chosen k h = chosen-by (k .a) (k .b) (eqb (k .b) 1) (eqb (k .a) 1) (ltb (3 * k .b) (2 * k .a)) (h .run) (h .side) refl refl refl
-
--- what a case says of the lengths: a straight block has one length 1, and one that is cut has both from 2 on
-tag : Choice → ℕ
-tag StraightRun = 0
-tag StraightSide = 1
-tag LongCut = 2
-tag UCut = 3
-
-cut-by : (a b : ℕ) → Chosen a b → 2 ≤ tag (choice a b) → (2 ≤ a) × (2 ≤ b)
-unfolding tag
-cut-by a b (is-run e o) t = absurd (omega (arith, ap tag e))
-cut-by a b (is-side e o l) t = absurd (omega (arith, ap tag e))
-cut-by a b (is-long e la lb l) t = (la, lb)
-cut-by a b (is-u e la lb l) t = (la, lb)
-
-run-by : (a b : ℕ) → Chosen a b → tag (choice a b) ≡ 0 → b ≡ 1
-unfolding tag
-run-by a b (is-run e o) t = o
-run-by a b (is-side e o l) t = absurd (omega (arith, ap tag e))
-run-by a b (is-long e la lb l) t = absurd (omega (arith, ap tag e))
-run-by a b (is-u e la lb l) t = absurd (omega (arith, ap tag e))
-
-side-by : (a b : ℕ) → Chosen a b → tag (choice a b) ≡ 1 → a ≡ 1
-unfolding tag
-side-by a b (is-run e o) t = absurd (omega (arith, ap tag e))
-side-by a b (is-side e o l) t = o
-side-by a b (is-long e la lb l) t = absurd (omega (arith, ap tag e))
-side-by a b (is-u e la lb l) t = absurd (omega (arith, ap tag e))
-
-pub run-length : (k : Block) → Sized k → choice (k .a) (k .b) ≡ StraightRun → k .b ≡ 1
-unfolding tag
-run-length k h e = run-by (k .a) (k .b) (chosen k h) (ap tag e)
-
-pub side-length : (k : Block) → Sized k → choice (k .a) (k .b) ≡ StraightSide → k .a ≡ 1
-unfolding tag
-side-length k h e = side-by (k .a) (k .b) (chosen k h) (ap tag e)
-
-pub long-lengths : (k : Block) → Sized k → choice (k .a) (k .b) ≡ LongCut → (2 ≤ k .a) × (2 ≤ k .b)
-unfolding tag
-long-lengths k h e = cut-by (k .a) (k .b) (chosen k h) (omega (arith, ap tag e))
-
-pub u-lengths : (k : Block) → Sized k → choice (k .a) (k .b) ≡ UCut → (2 ≤ k .a) × (2 ≤ k .b)
-unfolding tag
-u-lengths k h e = cut-by (k .a) (k .b) (chosen k h) (omega (arith, ap tag e))
 
 -- the parts of a block by its case
 pub parts-are : (k : Block) (c : Choice) → choice (k .a) (k .b) ≡ c → parts k ≡ map (λ p. part p k) (parts-of c)
@@ -164,15 +116,6 @@ smaller-by k h (is-u e a b l) = subst⁻¹ (All (Smaller k)) (parts-are k UCut e
 pub smaller : (k : Block) → Sized k → All (Smaller k) (parts k)
 smaller k h = smaller-by k h (chosen k h)
 
--- what holds of a block whenever it holds of its parts holds of every sized block
-induction-to : (P : Block → Type 0) → ((k : Block) → Sized k → All P (parts k) → P k) → (n : ℕ) (k : Block) → Sized k → k .a + k .b ≤ n → P k
-induction-to P step zero k h l = absurd (omega arith)
-induction-to P step (suc n) k h l =
-    step k h (All-map (λ q s. induction-to P step n q (s .sized) (let f = s .falls in omega arith)) (parts k) (smaller k h))
-
-pub induction : (P : Block → Type 0) → ((k : Block) → Sized k → All P (parts k) → P k) → (k : Block) → Sized k → P k
-induction P step k h = induction-to P step (k .a + k .b) k h (le-refl (k .a + k .b))
-
 -- a + b cuts are deep enough, so that deeper changes nothing
 module _ {R : Type 0} (of : Block → List R → R) where
   enough : (n m : ℕ) (k : Block) → Sized k → k .a + k .b ≤ n → k .a + k .b ≤ m → down of n k ≡ down of m k
@@ -200,57 +143,3 @@ curve-rule k h = rule-by (λ j curves. curve-by (choice (j .a) (j .b)) j curves)
 pub blocks-rule : (k : Block) → Sized k → blocks k ≡ k ∷ flatten (map blocks (parts k))
 unfolding blocks
 blocks-rule k h = rule-by (λ j below. j ∷ flatten below) (k .a + k .b) k h refl
-
--- The four rules: what the curve and the blocks of a block are, by its case.
-abbrev pub Rule : Choice → Block → Type 0
-Rule StraightRun k = (curve k ≡ row (k .run) (k .a) (k .start)) × (blocks k ≡ k ∷ [])
-Rule StraightSide k = (curve k ≡ row (k .side) (k .b) (k .start)) × (blocks k ≡ k ∷ [])
-Rule LongCut k =
-    (curve k ≡ curve (part First k) ++ curve (part Second k))
-    × (blocks k ≡ k ∷ (blocks (part First k) ++ blocks (part Second k)))
-Rule UCut k =
-    (curve k ≡ curve (part A k) ++ (curve (part B k) ++ curve (part C k)))
-    × (blocks k ≡ k ∷ (blocks (part A k) ++ (blocks (part B k) ++ blocks (part C k))))
-
--- the curve and the blocks where the case and its parts are written out
-abbrev Written : Choice → Block → Type 0
-Written c k =
-    (curve k ≡ curve-by c k (map curve (map (λ p. part p k) (parts-of c))))
-    × (blocks k ≡ k ∷ flatten (map blocks (map (λ p. part p k) (parts-of c))))
-
-written : (k : Block) → Sized k → Written (choice (k .a) (k .b)) k
-unfolding parts
-written k h = (curve-rule k h, blocks-rule k h)
-
-rule-of : (c : Choice) (k : Block) → Written c k → Rule c k
-unfolding parts-of curve-by flatten
-rule-of StraightRun k w = w
-rule-of StraightSide k w = w
-rule-of LongCut k w = simp append-nil at w
-rule-of UCut k w = simp append-nil at w
-
-pub four-rules : (k : Block) → Sized k → Rule (choice (k .a) (k .b)) k
-four-rules k h = rule-of (choice (k .a) (k .b)) k (written k h)
-
-pub rule : (k : Block) (c : Choice) → Sized k → choice (k .a) (k .b) ≡ c → Rule c k
-rule k c h e = subst (λ (c : Choice). Rule c k) e (four-rules k h)
-
--- A block is straight one way or the other, or it is cut in two or in three.
-pub data Cut (k : Block) : Type 0 where
-  in-two : 2 ≤ k .a → 2 ≤ k .b → parts k ≡ part First k ∷ part Second k ∷ [] → Cut k
-  in-three : 2 ≤ k .a → 2 ≤ k .b → parts k ≡ part A k ∷ part B k ∷ part C k ∷ [] → Cut k
-
-pub data Shape (k : Block) : Type 0 where
-  in-run : k .b ≡ 1 → parts k ≡ [] → curve k ≡ row (k .run) (k .a) (k .start) → Shape k
-  in-side : k .a ≡ 1 → parts k ≡ [] → curve k ≡ row (k .side) (k .b) (k .start) → Shape k
-  cut : Cut k → curve k ≡ flatten (map curve (parts k)) → Shape k
-
-shape-by : (k : Block) → Sized k → Chosen (k .a) (k .b) → Shape k
-unfolding parts-of curve-by
-shape-by k h (is-run e b) = in-run b (parts-are k StraightRun e) (rw e at (curve-rule k h))
-shape-by k h (is-side e a b) = in-side a (parts-are k StraightSide e) (rw e at (curve-rule k h))
-shape-by k h (is-long e a b l) = cut (in-two a b (parts-are k LongCut e)) (rw e at (curve-rule k h))
-shape-by k h (is-u e a b l) = cut (in-three a b (parts-are k UCut e)) (rw e at (curve-rule k h))
-
-pub shape : (k : Block) → Sized k → Shape k
-shape k h = shape-by k h (chosen k h)
