@@ -28,7 +28,8 @@ fn serve(desk: Desk, kept: &mut [u8], chunk: &[u8], out: &mut [u8]) -> Desk
     d
 }
 
-// The desk behind one read and the replies to it, and whether to go on: not at the end of the input, nor with a desk that is closed.
+// The desk behind one read and the replies to it, and whether to go on: not at the end of the input, nor with a desk that is closed. A read that fails
+// closes the desk: what came of a line before it may be part of another number.
 struct Went {
     desk: Desk,
     more: bool,
@@ -38,7 +39,14 @@ fn turn(desk: Desk, kept: &mut [u8], chunk: &mut [u8], out: &mut [u8]) -> Went
     requires { ⌜ (in-order desk (now kept) ≡ true) × (longest ≤ length (now out)) ⌝ }
     ensures { λ r. ⌜ in-order (r .desk) (now (kept .exit)) ≡ true ⌝ }
 {
-    let n = io::count(libc::read(STDIN_FILENO, chunk), chunk);
+    let got = libc::read(STDIN_FILENO, chunk);
+    if got < 0 {
+        return Went {
+            desk: desk::closed(desk),
+            more: false,
+        };
+    }
+    let n = io::count(got, chunk);
     let d = serve(desk, kept, &chunk[..n], out);
     if n == 0 {
         return Went {
