@@ -4,6 +4,9 @@ use terms::Refusal;
 ghost use mathlib.Core.Path.{_≡_};
 ghost use Rattle.curve.specs.Lookups.{square-figures, number-figures, finish-figures, number-to-square, square-to-number, finish-square};
 
+// The most blocks of the division that a lookup opens.
+const MOST_BLOCKS: u32 = 64;
+
 // What a lookup of a number answers.
 pub enum SquareAnswer {
     Found { x: u32, y: u32, blocks: u32 },
@@ -34,9 +37,10 @@ pub fn number_to_square(area: Area, number: u32) -> SquareAnswer
     if w * h <= number {
         return SquareAnswer::Refused(Refusal::NumberOutside);
     }
+    // x, y and the count, of 8 bits, in one word: see `square_word` in descents.
     let word = descents::descend(0, 0, false, false, w, h, number, 0);
     let blocks = (word % 256) as u32;
-    if 64 < blocks {
+    if MOST_BLOCKS < blocks {
         return SquareAnswer::Refused(Refusal::TooDeep);
     }
     SquareAnswer::Found {
@@ -63,7 +67,7 @@ pub fn square_to_number(area: Area, x: u32, y: u32) -> NumberAnswer
     }
     let word = searches::search(w, h, x, y, 0, 0);
     let blocks = (word % 256) as u32;
-    if 64 < blocks {
+    if MOST_BLOCKS < blocks {
         return NumberAnswer::Refused(Refusal::TooDeep);
     }
     NumberAnswer::Found {

@@ -48,7 +48,7 @@ pub fn even_half(len: u32) -> u32
     half + half % 2
 }
 
-// x or y by a test, without a branch in the compiled code.
+// x or y by a test: so short that the compiler selects and does not branch.
 pub fn either(test: bool, x: u32, y: u32) -> u32
     ensures { λ r. ⌜ r ≡ cond test x y ⌝ }
 {

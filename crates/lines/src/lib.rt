@@ -215,8 +215,8 @@ fn with_one(a: &[u8]) -> Request
 }
 
 // What a line asks with two numbers behind its word. Both fields have to be there before either is read.
-fn with_two(a: &[u8], b: &[u8], area: bool) -> Request
-    ensures { λ r. ⌜ r ≡ of-two (cond area SetArea AskSquare) (now (a .entry)) (now (b .entry)) ⌝ }
+fn with_two(a: &[u8], b: &[u8], sets: bool) -> Request
+    ensures { λ r. ⌜ r ≡ of-two (cond sets SetArea AskSquare) (now (a .entry)) (now (b .entry)) ⌝ }
 {
     if a.len() < 1 {
         return Request::Refused(Refusal::WrongShape);
@@ -227,7 +227,7 @@ fn with_two(a: &[u8], b: &[u8], area: bool) -> Request
     match number(a) {
         Numeral::Value(x) => match number(b) {
             Numeral::Value(y) => {
-                if area {
+                if sets {
                     return Request::SetArea { w: x, h: y };
                 }
                 Request::AskSquare { x: x, y: y }

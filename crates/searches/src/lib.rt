@@ -37,12 +37,12 @@ fn u_at(s: Spot, before: u32) -> Ahead
     ensures { λ r. ⌜ Leads s before (r .spot) (r .before) ⌝ }
 {
     let e = division::even_half(s.b);
-    let in_a = e * (s.a / 2);
+    let to_b = e * (s.a / 2);
     if e <= s.v {
         let spot = division::in_b(s);
         return Ahead {
             spot: spot,
-            before: before + in_a,
+            before: before + to_b,
         };
     }
     if s.u < s.a / 2 {
@@ -55,7 +55,7 @@ fn u_at(s: Spot, before: u32) -> Ahead
     let spot = division::in_c(s);
     Ahead {
         spot: spot,
-        before: before + in_a + s.a * (s.b - e),
+        before: before + to_b + s.a * (s.b - e),
     }
 }
 

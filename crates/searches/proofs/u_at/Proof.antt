@@ -10,8 +10,8 @@ use Rattle.searches.proofs.u_at.Tie as tie
 even-half-requires : tie.Need-even-half-requires
 even-half-requires c κs = search needs
 
-mul-in-a : tie.Need-mul-in-a
-mul-in-a c = record { fits = spot-sums (c .before .before .args .s) (c .before .before .args .before) (c .before .before .pre .0) (c .before .before .pre .1) (c .before .even-half .result) (c .before .even-half .ensures) .in-a }
+mul-to-b : tie.Need-mul-to-b
+mul-to-b c = record { fits = spot-sums (c .before .before .args .s) (c .before .before .args .before) (c .before .before .pre .0) (c .before .before .pre .1) (c .before .even-half .result) (c .before .even-half .ensures) .in-a }
 
 in-b-requires : tie.Need-in-b-requires
 in-b-requires c κs = (u-two (c .before .before .before .before .args .s) (c .before .before .before .before .args .before) (c .before .before .before .before .pre .0) (c .before .before .before .before .pre .1) .1, subst (λ (n : ℕ). n ≤ c .before .before .before .before .args .s .v) (c .before .before .before .even-half .ensures) (c .if1 .taken))
@@ -51,7 +51,7 @@ u-at-spec =
     tie.close
     (tie.spec
     even-half-requires
-    mul-in-a
+    mul-to-b
     in-b-requires
     add-t10
     returns
