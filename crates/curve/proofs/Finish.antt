@@ -1,0 +1,165 @@
+-- Where the curve of an area ends: the square of its last number, in one of three ways. By induction over the blocks: a cut area ends where its last part
+-- ends, and that part's lengths decide which way it is.
+use mathlib.Core.Bool.{Bool, true, false}
+use mathlib.Core.Path.{_≡_, refl, ap, subst, _∙_}
+use Prim.Native.Nat.{ℕ, _+_, _-_, _*_, _/_, _%_, _≤_, _<_}
+use native.Mathlib.Omega.{arith}
+use borrow.Author.Tests.{eqb-true, eqb-false}
+use lib.Dec.{eqb}
+use Rattle.division.specs.declared.Choice.the-variants.{LongCut, UCut}
+use Rattle.division.specs.Division.{square, Block, whole, even-half, part, parts, parts-of, square-of, number-of}
+use Rattle.division.specs.Division.Inside.{Sized}
+use Rattle.division.specs.Division.Rules.{All, Chosen, is-run, is-side, is-long, is-u, chosen, halves, parts-are}
+use Rattle.division.proofs.Cases.{induction}
+use Rattle.division.proofs.Cuts.{long-areas, u-areas}
+use Rattle.division.proofs.Blocks.{whole-inside}
+use Rattle.division.proofs.Local.{Within, inner, in-second, in-c, squares-of, whole-holds, area-run, area-side, area-cut}
+use Rattle.division.proofs.Once.{square-of-number}
+use Rattle.division.proofs.Walks.{half-small, half-large}
+
+-- the three ways: up along a width of 1, one short of the corner, and at the corner
+pub data Ends (a b x y : ℕ) : Type 0 where
+  up : a ≡ 1 → x ≡ 0 → y + 1 ≡ b → Ends a b x y
+  short : b ≡ 2 → 3 ≤ a → a % 2 ≡ 1 → x + 2 ≡ a → y ≡ 0 → Ends a b x y
+  corner : 2 ≤ a → (b ≡ 2 → a % 2 ≡ 0) → x + 1 ≡ a → y ≡ 0 → Ends a b x y
+
+-- the even half is even, but for lengths 1 and 2
+half-even : (L : ℕ) → 2 < L → even-half L % 2 ≡ 0
+half-even L l = let e = half-large L l in omega arith
+
+rest-odd : (a e : ℕ) → e ≤ a → a % 2 ≡ 1 → e % 2 ≡ 0 → (a - e) % 2 ≡ 1
+rest-odd a e l odd even = omega arith
+
+rest-even : (a e : ℕ) → e ≤ a → a % 2 ≡ 0 → e % 2 ≡ 0 → (a - e) % 2 ≡ 0
+rest-even a e l odd even = omega arith
+
+at-least-3 : (n : ℕ) → n % 2 ≡ 1 → 2 ≤ n → 3 ≤ n
+at-least-3 n odd l = omega arith
+
+-- an area's last number is where it ends
+abbrev Last : Block → Type 0
+Last k = (x y : ℕ) → Ends (k .a) (k .b) x y → number-of (whole (k .a) (k .b)) (square x y) + 1 ≡ k .a * k .b
+
+module _ (a b x y : ℕ) where
+  -- the last part of a long cut ends as the block does
+  second-ends : 2 ≤ b → 3 * b < 2 * a → Ends a b x y → Ends (a - even-half a) b (x - even-half a) y
+  second-ends lb l (up one p q) = absurd (omega arith)
+  second-ends lb l (short two la odd p q) =
+      let half = halves a (omega arith) in
+      let even = half-even a (omega arith) in
+      let odd-rest : (a - even-half a) % 2 ≡ 1 = rest-odd a (even-half a) (omega arith) odd even in
+      short two (at-least-3 (a - even-half a) odd-rest (omega arith)) odd-rest (omega arith) q
+  second-ends lb l (corner la even p q) =
+      let half = halves a la in
+      let even-e = half-even a (omega arith) in
+      corner (omega arith) (λ two. rest-even a (even-half a) (omega arith) (even two) even-e) (omega arith) q
+
+  -- so does C, the last part of a U cut
+  c-ends : 2 ≤ a → 2 ≤ b → 2 * a ≤ 3 * b → Ends a b x y → Ends (even-half b) (a - a / 2) (even-half b - 1 - y) (a - 1 - x)
+  c-ends la lb l (up one p q) = absurd (omega arith)
+  c-ends la lb l (short two three odd p q) =
+      let one : b / 2 ≡ even-half b = half-small b (omega arith) in
+      up (omega arith) (omega arith) (omega arith)
+  c-ends la lb l (corner la′ even p q) = by (eqb b 2) refl
+    where
+      by : (t : Bool) → eqb b 2 ≡ t → Ends (even-half b) (a - a / 2) (even-half b - 1 - y) (a - 1 - x)
+      by true t =
+          let two = eqb-true b 2 t in
+          let even-a = even two in
+          let one : b / 2 ≡ even-half b = half-small b (omega arith) in
+          up (omega arith) (omega arith) (omega arith)
+      by false t =
+          let more = eqb-false b 2 t in
+          let half = halves b lb in
+          let even-e = half-even b (omega arith) in
+          corner (omega arith) (λ two. even-e) (omega arith) (omega arith)
+
+-- and it lies in that last part
+second-behind : (a b x y : ℕ) → 2 ≤ b → 3 * b < 2 * a → Ends a b x y → even-half a ≤ x
+second-behind a b x y lb l (up one p q) = absurd (omega arith)
+second-behind a b x y lb l (short two la odd p q) = let half = halves a (omega arith) in omega arith
+second-behind a b x y lb l (corner la even p q) = let half = halves a la in omega arith
+
+c-behind : (a b x y : ℕ) → 2 ≤ a → 2 ≤ b → Ends a b x y → (a / 2 ≤ x) × (y < even-half b)
+c-behind a b x y la lb (up one p q) = absurd (omega arith)
+c-behind a b x y la lb (short two three odd p q) = let half = halves b lb in (omega arith, omega arith)
+c-behind a b x y la lb (corner la′ even p q) = let half = halves b lb in (omega arith, omega arith)
+
+-- within the area, for every way
+ends-within : (a b x y : ℕ) → 1 ≤ b → Ends a b x y → Within a b (square x y)
+ends-within a b x y lb (up one p q) = record { run = omega arith; side = omega arith }
+ends-within a b x y lb (short two la odd p q) = record { run = omega arith; side = omega arith }
+ends-within a b x y lb (corner la even p q) = record { run = omega arith; side = omega arith }
+
+-- a straight area, by its rule
+run-last : (a b x y : ℕ) → b ≡ 1 → Ends a b x y → x + 1 ≡ a * b
+run-last a b x y is (up one p q) = rw is (omega arith)
+run-last a b x y is (short two la odd p q) = absurd (omega arith)
+run-last a b x y is (corner la even p q) = rw is (omega arith)
+
+side-last : (a b x y : ℕ) → a ≡ 1 → Ends a b x y → y + 1 ≡ a * b
+side-last a b x y is (up one p q) = rw is (omega arith)
+side-last a b x y is (short two la odd p q) = absurd (omega arith)
+side-last a b x y is (corner la even p q) = absurd (omega arith)
+
+module _ (k : Block) (h : Sized k) (x y : ℕ) (ends : Ends (k .a) (k .b) x y) (below : All Last (parts k)) where
+  here : Within (k .a) (k .b) (square x y)
+  here = ends-within (k .a) (k .b) x y (h .side) ends
+
+  last-by : Chosen (k .a) (k .b) → number-of (whole (k .a) (k .b)) (square x y) + 1 ≡ k .a * k .b
+  unfolding squares-of part parts-of inner whole
+  last-by (is-run c one) =
+      let number = area-run (k .a) (k .b) (h .run) (h .side) (square x y) here c one .0 in
+      ap (λ n. n + 1) number ∙ run-last (k .a) (k .b) x y one ends
+  last-by (is-side c one two) =
+      let number = area-side (k .a) (k .b) (h .run) (h .side) (square x y) here c one .0 in
+      ap (λ n. n + 1) number ∙ side-last (k .a) (k .b) x y one ends
+  last-by (is-long c la lb l) =
+      let half = halves (k .a) la in
+      let behind = second-behind (k .a) (k .b) x y lb l ends in
+      let e = even-half (k .a) in
+      let number : number-of (whole (k .a) (k .b)) (square x y) ≡ e * k .b + 0 + number-of (whole (k .a - e) (k .b)) (square (x - e) y) =
+      area-cut (k .a) (k .b) (h .run) (h .side) (square x y) lb (in-second (k .a) (k .b) (square x y) c behind (here .run) (here .side)) .0 in
+      let there = subst (All Last) (parts-are k LongCut c) below .1 .0 (x - e) y (second-ends (k .a) (k .b) x y lb l ends) in
+      let all = long-areas e (k .a) (k .b) (omega arith) in
+      omega arith
+  last-by (is-u c la lb l) =
+      let half = halves (k .b) lb in
+      let behind = c-behind (k .a) (k .b) x y la lb ends in
+      let e = even-half (k .b) in
+      let number : number-of (whole (k .a) (k .b)) (square x y) ≡ e * (k .a / 2) + (k .a * (k .b - e) + 0) + number-of (whole e (k .a - k .a / 2)) (square (e - 1 - y) (k .a - 1 - x)) =
+      area-cut (k .a) (k .b) (h .run) (h .side) (square x y) lb (in-c (k .a) (k .b) (square x y) c (behind .0) (here .run) (behind .1)) .0 in
+      let there = subst (All Last) (parts-are k UCut c) below .1 .1 .0 (e - 1 - y) (k .a - 1 - x) (c-ends (k .a) (k .b) x y la lb l ends) in
+      let all = u-areas e (k .a / 2) (k .a) (k .b) (omega arith) (omega arith) in
+      omega arith
+
+-- The curve of an area ends at the square that its lengths say.
+pub last-number : (w h x y : ℕ) → 1 ≤ w → 1 ≤ h → Ends w h x y → number-of (whole w h) (square x y) + 1 ≡ w * h
+unfolding whole
+last-number w h x y lw lh e =
+    induction Last (λ k sized below x y e. last-by k sized x y e below (chosen k sized)) (whole w h) (record { run = lw; side = lh }) x y e
+
+pub last-square : (w h x y : ℕ) → 1 ≤ w → 1 ≤ h → Ends w h x y → square-of (whole w h) (w * h - 1) ≡ square x y
+last-square w h x y lw lh e =
+    let number = last-number w h x y lw lh e in
+    let is : w * h - 1 ≡ number-of (whole w h) (square x y) = omega arith in
+    ap (square-of (whole w h)) is ∙ square-of-number w h (whole w h) (whole-inside w h lw lh) (square x y) (whole-holds w h (square x y) (ends-within w h x y lh e))
+
+-- Every area ends in one of the ways; so the finish square (w - 1, 0) is the last but for the first two of them.
+pub ends : (w h : ℕ) → 1 ≤ w → 1 ≤ h → (x : ℕ) × (y : ℕ) × Ends w h x y
+ends w h lw lh = by (eqb w 1) (eqb h 2) (eqb (w % 2) 1) refl refl refl
+  where
+    by : (one two odd : Bool) → eqb w 1 ≡ one → eqb h 2 ≡ two → eqb (w % 2) 1 ≡ odd → (x : ℕ) × (y : ℕ) × Ends w h x y
+    by true two odd p q r = (0, h - 1, up (eqb-true w 1 p) refl (omega arith))
+    by false true true p q r =
+        let more = eqb-false w 1 p in
+        let is = eqb-true (w % 2) 1 r in
+        (w - 2, 0, short (eqb-true h 2 q) (at-least-3 w is (omega arith)) is (let three = at-least-3 w is (omega arith) in omega arith) refl)
+    by false true false p q r =
+        let more = eqb-false w 1 p in
+        let is = eqb-false (w % 2) 1 r in
+        (w - 1, 0, corner (omega arith) (λ two. omega arith) (omega arith) refl)
+    by false false odd p q r =
+        let more = eqb-false w 1 p in
+        let other = eqb-false h 2 q in
+        (w - 1, 0, corner (omega arith) (λ two. absurd (other two)) (omega arith) refl)
