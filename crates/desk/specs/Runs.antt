@@ -1,6 +1,5 @@
 -- Every way in which an input can come: in pieces of any size, each fed as often as it takes, with an output of any size from any place on; and all that
--- is printed for it. Document 01 knows no pieces: a run is a form of the code. Its steps are what `feed` and `finish` promise: proofs/Attached.antt says
--- that their calls make such a run, and proofs/Stream.antt that every run from the first byte on prints `output` (Desk.antt).
+-- is printed for it. Document 01 knows no pieces: a run is a form of the code, and its steps are what `feed` and `finish` promise.
 use mathlib.Core.Bool.{true}
 use mathlib.Core.List.{List, [], _++_}
 use mathlib.Core.Path.{_≡_}
