@@ -10,8 +10,7 @@ use borrow.Author.Tests.{ne-eqb}
 use lib.ListN.{length, take, length-take}
 use Rattle.terms.specs.declared.Refusal.{Refusal}
 use Rattle.terms.specs.Terms.{accepted, refusal-number, answered, refused}
-use Rattle.terms.proofs.Laws.{limits, refusal-some}
-use Rattle.division.proofs.Walks.{product-limit}
+use Rattle.terms.proofs.Laws.{squares-limit, refusal-some}
 use Rattle.curve.specs.Lookups.{finish-square}
 use Rattle.lines.specs.declared.Request.{Request}
 use Rattle.lines.specs.declared.Request.the-variants.{SetArea, AskNumber, AskSquare, Refused}
@@ -31,7 +30,7 @@ unfolding finish-square
 found-fits w h x y e = by (accepted w h) refl
   where
     by : (t : Bool) → accepted w h ≡ t → w * h < 4294967296
-    by true ok = let all = limits w h ok in product-limit w h (all .w-most) (all .h-most)
+    by true ok = squares-limit w h ok
     by false bad =
         let is : finish-square w h .refusal ≡ 1 = rw bad refl in
         let found : 0 ≡ finish-square w h .refusal = ap (λ f. f .refusal) e in

@@ -1,7 +1,6 @@
 -- What the desk does at each byte, and at the end of the input. It renders, byte by byte, document 01, "A line is the bytes before a newline (byte 10);
 -- bytes after the last newline are a line if there are any" and "If there is a line 65,536 it prints 65536 STOP for it, and reads no more". Pieces, the
--- room of an output and the place where a line is kept, as far as its first 65 bytes, which decide, are a form of the code: `whole-printed`
--- (proofs/Stream.antt) says that it all comes to `output` (Desk.antt).
+-- room of an output and the place where a line is kept, as far as its first 65 bytes, which decide, are a form of the code.
 use mathlib.Core.Bool.{Bool, true, false, cond, _&&_}
 use mathlib.Core.List.{List, [], _∷_, _++_}
 use mathlib.Core.Path.{_≡_}

@@ -1,4 +1,4 @@
-// What every crate shares: the area, whether it is accepted, and the refusals by name and number.
+// What every call shares: the area, whether it is accepted, and the refusals by name and number.
 ghost use mathlib.Core.Path.{_≡_};
 ghost use Rattle.terms.specs.Terms.{length-accepted, accepted, refusal-number};
 
