@@ -7,7 +7,7 @@ use native.Mathlib.Omega.{arith}
 use types.Run.{OneOf, miss}
 use denote.Enum.Declared.{tagOf}
 use borrow.Author.Tests.{ne-eqb}
-use lib.ListN.{length, take, length-take}
+use lib.ListN.{length, getD, take, length-take}
 use Rattle.terms.specs.declared.Refusal.{Refusal}
 use Rattle.terms.specs.Terms.{accepted, refusal-number, answered, refused}
 use Rattle.terms.proofs.Laws.{squares-limit, refusal-some}
@@ -20,6 +20,19 @@ use Rattle.lines.specs.Lines.{AREA}
 use Rattle.clerk.specs.declared.Clerk.{Clerk}
 use Rattle.clerk.specs.declared.Clerk.the-variants.{NoArea}
 use Rattle.clerk.specs.Clerk as spec
+
+-- for telling two replies apart: the i-th number, and the word as a number
+abbrev pub value : ℕ → spec.Said → ℕ
+value i s = getD (s .numbers) i 0
+
+abbrev pub word-mark : spec.Word → ℕ
+word-mark spec.Area-set = 0
+word-mark spec.Cell = 1
+word-mark spec.Number = 2
+word-mark spec.Refused = 3
+
+abbrev pub mark : spec.Said → ℕ
+mark s = word-mark (s .word)
 
 pub told-refused : (word : spec.Word) (first : List ℕ) (r : Refusal) (n : ℕ) → spec.says spec.Refused (refusal-number r ∷ []) ≡ spec.told word first (refused r n)
 told-refused word first r n = sym (rw (ne-eqb (refusal-number r) 0 (refusal-some r)))

@@ -1,2 +1,3 @@
 pub mod Handling
+pub mod Areas
 pub mod Promises

@@ -10,7 +10,8 @@ use Rattle.terms.proofs.Laws.{bit}
 use Rattle.lines.specs.Lines.{fields, all-digits, value-on, is-number, numeral, same-bytes, shaped, request}
 use Rattle.clerk.specs.declared.Clerk.the-variants.{NoArea}
 use Rattle.clerk.specs.Clerk.{Said, after, reply}
-use Rattle.replies.specs.Text.{decimal-by, decimal, text, longest, Writes, if-room}
+use Rattle.lines.specs.Decimal.{decimal-by, decimal}
+use Rattle.replies.specs.Text.{text, longest, Writes, if-room}
 use Rattle.replies.proofs.Promises.{writes-one}
 use Rattle.desk.specs.declared.Desk.{Desk}
 use Rattle.desk.specs.Desk.{lines-of, answers, output}

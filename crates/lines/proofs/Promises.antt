@@ -1,12 +1,34 @@
--- What the promise of `is_area` turns away: a test of the length alone, which AREB passes, and one of the first four bytes alone, which AREAX passes.
+-- What the promises come to. Of `request_of`: two requests that meet it are one, since a request can be told from its figures. Of `is_area`: it turns away a
+-- test of the length alone, which AREB passes, and one of the first four bytes alone, which AREAX passes.
+use mathlib.Core.Bool.{cond}
 use mathlib.Core.List.{List, [], _∷_}
-use mathlib.Core.Path.{_≡_, ap}
+use mathlib.Core.Path.{_≡_, refl, sym, ap, _∙_}
 use Prim.Native.Nat.{ℕ}
 use native.Mathlib.Omega.{arith}
 use lib.Dec.{eqb}
-use lib.ListN.{length, take}
-use Rattle.terms.proofs.Laws.{bit}
-use Rattle.lines.specs.Lines.{AREA, same-bytes}
+use lib.ListN.{length, getD, take}
+use Rattle.terms.proofs.Laws.{named, named-back, bit}
+use Rattle.lines.specs.declared.Request.{Request}
+use Rattle.lines.specs.declared.Request.the-variants.{SetArea, AskNumber, AskSquare, Refused}
+use Rattle.lines.specs.Lines.{AREA, same-bytes, Asked, asked}
+
+-- the request of some figures: by the first letter of the word, which a refusal has none of
+of-figures : Asked → Request
+of-figures q =
+    let letter = getD (q .word) 0 0 in
+    let one = getD (q .numbers) 0 0 in
+    let two = getD (q .numbers) 1 0 in
+    cond (eqb letter 65) (SetArea one two) (cond (eqb letter 78) (AskNumber one) (cond (eqb letter 83) (AskSquare one two) (Refused (named (q .refusal)))))
+
+told-back : (q : Request) → of-figures (asked q) ≡ q
+unfolding of-figures
+told-back (SetArea w h) = refl
+told-back (AskNumber i) = refl
+told-back (AskSquare x y) = refl
+told-back (Refused r) = ap Refused (named-back r)
+
+pub request-one : (p q : Request) → asked p ≡ asked q → p ≡ q
+request-one p q e = sym (told-back p) ∙ ap of-figures e ∙ told-back q
 
 pub length-alone : ((s : List ℕ) → eqb (length s) 4 ≡ same-bytes s AREA) → ⊥
 unfolding same-bytes

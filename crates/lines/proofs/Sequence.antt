@@ -17,7 +17,7 @@ use Rattle.lines.specs.Reading.{word, none, field-at, piece, made-of-thr
 use Rattle.lines.proofs.Words.{end-from, end-past}
 
 -- a line's first field, and the rest
-abbrev rest : List ℕ → List (List ℕ)
+abbrev pub rest : List ℕ → List (List ℕ)
 rest s = cond (ltb (length (word s)) (length s)) (fields (drop (suc (length (word s))) s)) []
 
 ltb-suc : (m n : ℕ) → ltb m n ≡ ltb (suc m) (suc n)
@@ -27,7 +27,7 @@ ltb-suc m n = by (ltb m n) refl
     by true e = e ∙ sym (lt-ltb (suc m) (suc n) (let l = ltb-true m n e in omega arith))
     by false e = e ∙ sym (le-ltb (suc m) (suc n) (let l = ltb-false m n e in omega arith))
 
-fields-are : (s : List ℕ) → fields s ≡ word s ∷ rest s
+pub fields-are : (s : List ℕ) → fields s ≡ word s ∷ rest s
 unfolding fields word
 fields-are [] = refl
 fields-are (b ∷ s) = by (fields-are s) (eqb b 32) refl
@@ -37,7 +37,7 @@ fields-are (b ∷ s) = by (fields-are s) (eqb b 32) refl
     by are false e =
         rw e (ap (onto b) are ∙ ap (λ t. (b ∷ word s) ∷ cond t (fields (drop (suc (length (word s))) s)) []) (ltb-suc (length (word s)) (length s)))
 
-word-take : (s : List ℕ) → take (length (word s)) s ≡ word s
+pub word-take : (s : List ℕ) → take (length (word s)) s ≡ word s
 unfolding word
 word-take [] = refl
 word-take (b ∷ s) = by (word-take s) (eqb b 32) refl

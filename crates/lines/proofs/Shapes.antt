@@ -1,10 +1,10 @@
 -- A field and a word compared byte by byte, and what the fields behind the word make of a line.
-use mathlib.Core.Bool.{true, false, _&&_, and-false, and-true, or-true}
+use mathlib.Core.Bool.{true, false, _&&_, and-false, and-true, or-true, and-eq-true-iff}
 use mathlib.Core.List.{List, [], _∷_}
 use mathlib.Core.Path.{_≡_, refl, sym, ap, ap₂, _∙_}
 use Prim.Native.Nat.{ℕ, _≤_, _<_}
 use native.Mathlib.Omega.{arith}
-use borrow.Author.Tests.{eq-eqb, ne-eqb}
+use borrow.Author.Tests.{eq-eqb, ne-eqb, eqb-true}
 use lib.Dec.{eqb}
 use lib.ListN.{length, getD}
 use Rattle.terms.specs.declared.Refusal.the-variants.{WrongShape}
@@ -19,6 +19,20 @@ other-length [] [] other = absurd (other refl)
 other-length [] (b ∷ t) other = refl
 other-length (a ∷ s) [] other = refl
 other-length (a ∷ s) (b ∷ t) other = ap (λ u. eqb a b && u) (other-length s t (λ e. other (omega arith))) ∙ and-false (eqb a b)
+
+pub same-itself : (s : List ℕ) → same-bytes s s ≡ true
+unfolding same-bytes
+same-itself [] = refl
+same-itself (a ∷ s) = rw (eq-eqb a a refl) (same-itself s)
+
+pub same-true : (s t : List ℕ) → same-bytes s t ≡ true → s ≡ t
+unfolding same-bytes
+same-true [] [] e = refl
+same-true [] (b ∷ t) e = absurd (let z : _≡_ {A = ℕ} 0 1 = cc in omega arith)
+same-true (a ∷ s) [] e = absurd (let z : _≡_ {A = ℕ} 0 1 = cc in omega arith)
+same-true (a ∷ s) (b ∷ t) e =
+    let both = and-eq-true-iff (eqb a b) (same-bytes s t) .0 e in
+    ap₂ _∷_ (eqb-true a b (both .0)) (same-true s t (both .1))
 
 pub one-letter : (s : List ℕ) (a : ℕ) → length s ≡ 1 → eqb (getD s 0 0) a ≡ same-bytes s (a ∷ [])
 unfolding same-bytes

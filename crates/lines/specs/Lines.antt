@@ -5,10 +5,12 @@ use Prim.Native.Nat.{ℕ, _+_, _-_, _*_}
 use lib.Dec.{leb, eqb}
 use lib.ListN.{length}
 use Rattle.terms.specs.declared.Refusal.the-variants.{NotANumber, WrongShape, LongLine}
+use Rattle.terms.specs.Terms.{refusal-number}
 use Rattle.lines.specs.declared.Numeral.{Numeral}
 use Rattle.lines.specs.declared.Numeral.the-variants.{Value, NoNumber}
 use Rattle.lines.specs.declared.Request.{Request}
 use Rattle.lines.specs.declared.Request.the-variants.{SetArea, AskNumber, AskSquare, Refused}
+use Rattle.lines.specs.Letters.{bytes}
 
 -- A byte put before the first of some pieces, or a piece of its own where there is none.
 abbrev pub onto : ℕ → List (List ℕ) → List (List ℕ)
@@ -51,13 +53,13 @@ numeral f = cond (is-number f) (Value (value f)) NoNumber
 
 -- The first words.
 abbrev pub AREA : List ℕ
-AREA = 65 ∷ 82 ∷ 69 ∷ 65 ∷ []
+AREA = bytes "AREA"
 
 abbrev pub N : List ℕ
-N = 78 ∷ []
+N = bytes "N"
 
 abbrev pub S : List ℕ
-S = 83 ∷ []
+S = bytes "S"
 
 unfoldable pub same-bytes : List ℕ → List ℕ → Bool
 same-bytes [] [] = true
@@ -103,3 +105,16 @@ shaped (word ∷ a ∷ b ∷ c ∷ fs) = Refused WrongShape
 -- "8: a line has over 64 bytes"; "For a line it is 8, 6, 5".
 unfoldable pub request : List ℕ → Request
 request line = cond (leb (length line) 64) (shaped (fields line)) (Refused LongLine)
+
+-- A request on paper: the refusal's number, 0 for none, the first word of its shape, and the numbers behind it. "5, 6, 8: the number, all else 0": where it
+-- is refused there is no word, and there are no numbers.
+pub record Asked : Type 0 where
+  pub refusal : ℕ
+  pub word : List ℕ
+  pub numbers : List ℕ
+
+abbrev pub asked : Request → Asked
+asked (SetArea w h) = record { refusal = 0; word = AREA; numbers = w ∷ h ∷ [] }
+asked (AskNumber i) = record { refusal = 0; word = N; numbers = i ∷ [] }
+asked (AskSquare x y) = record { refusal = 0; word = S; numbers = x ∷ y ∷ [] }
+asked (Refused r) = record { refusal = refusal-number r; word = []; numbers = [] }

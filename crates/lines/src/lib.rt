@@ -7,7 +7,7 @@ ghost use Prim.Native.Nat.{_≤_};
 ghost use lib.Dec.{leb};
 ghost use lib.ListN.{length};
 ghost use Rattle.lines.specs.declared.Request.the-variants.{SetArea, AskNumber, AskSquare};
-ghost use Rattle.lines.specs.Lines.{all-digits, well-begun, value, numeral, same-bytes, AREA, of-one, of-two, two-fields, three-fields, request};
+ghost use Rattle.lines.specs.Lines.{all-digits, well-begun, value, numeral, same-bytes, AREA, of-one, of-two, two-fields, three-fields, request, asked};
 ghost use Rattle.lines.specs.Reading.{field-at, piece, made-of-three, three-read};
 
 // How many bytes a line may have.
@@ -289,7 +289,7 @@ fn read(line: &[u8]) -> Request
 
 // What a line asks, whatever its bytes are.
 pub fn request_of(line: &[u8]) -> Request
-    ensures { λ r. ⌜ r ≡ request (now (line .entry)) ⌝ }
+    ensures { λ r. ⌜ asked r ≡ asked (request (now (line .entry))) ⌝ }
 {
     if MOST_BYTES < line.len() {
         return Request::Refused(Refusal::LongLine);

@@ -9,7 +9,8 @@ use lib.Dec.{leb}
 use lib.ListN.{replicate}
 use Rattle.terms.proofs.Laws.{bit}
 use Rattle.clerk.specs.Clerk.{says, Refused}
-use Rattle.replies.specs.Text.{decimal-by, decimal, text, stop, longest, Writes, if-room}
+use Rattle.lines.specs.Decimal.{decimal-by, decimal}
+use Rattle.replies.specs.Text.{text, stop, longest, Writes, if-room}
 
 -- Two results that meet the promise of `write_reply`, of `write_stop` or of a call that writes as they do are one.
 pub writes-one : {before bytes one other : List ℕ} {at end end′ : ℕ} → Writes before at bytes one end → Writes before at bytes other end′ → (one ≡ other) × (end ≡ end′)

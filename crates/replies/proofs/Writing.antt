@@ -1,15 +1,15 @@
--- Bytes written one behind the other, and the digits of a number: the digits before the last are those of the tenth part.
-use mathlib.Core.Bool.{Bool, true, false, cond}
+-- Bytes written one behind the other, and the room for them.
+use mathlib.Core.Bool.{Bool, true, false}
 use mathlib.Core.List.{List, [], _∷_, _++_}
 use mathlib.Core.Path.{_≡_, refl, sym, ap, ap₂, _∙_}
-use Prim.Native.Nat.{ℕ, zero, suc, _+_, _-_, _/_, _%_, _≤_, _<_, _^_}
+use Prim.Native.Nat.{ℕ, suc, _+_, _-_, _≤_, _<_}
 use native.Mathlib.Nat.{add-zero}
 use native.Mathlib.Omega.{arith}
-use borrow.Author.Tests.{ltb-true, ltb-false, lt-ltb, le-ltb, leb-true, leb-false, le-leb, lt-leb}
-use lib.Dec.{leb, ltb}
+use borrow.Author.Tests.{leb-true, leb-false, le-leb, lt-leb}
+use lib.Dec.{leb}
 use lib.ListN.{length, length-append, getD, take, drop, set}
 use lib.Seq.{sets, sets-eq, length-sets, take-suc, take-length, length-take-le, take-at, drop-at, slice}
-use Rattle.replies.specs.Text.{decimal-by, decimal, longest, Writes, if-room}
+use Rattle.replies.specs.Text.{longest, Writes, if-room}
 
 sets-append : (t : List ℕ) (i : ℕ) (xs ys : List ℕ) → sets t i (xs ++ ys) ≡ sets (sets t i xs) (i + length xs) ys
 sets-append t i [] ys = ap (λ n. sets t n ys) (sym (add-zero i))
@@ -30,33 +30,6 @@ writes-both {t} {t′} {t″} {xs} {ys} {i} first second =
 
 pub writes-byte : (t : List ℕ) (i b : ℕ) → Writes t i (b ∷ []) (set t i b) (i + 1)
 writes-byte t i b = record { written = refl; behind = refl }
-
--- the digits of a number
-tenth : (n steps : ℕ) → n ≤ suc steps → n / 10 ≤ steps
-tenth n steps l = omega arith
-
-same-digits : (s t n : ℕ) → n ≤ s → n ≤ t → decimal-by s n ≡ decimal-by t n
-unfolding decimal-by
-same-digits zero zero n l m = refl
-same-digits zero (suc t) n l m = let none : n ≡ 0 = omega arith in rw none refl
-same-digits (suc s) zero n l m = let none : n ≡ 0 = omega arith in rw none refl
-same-digits (suc s) (suc t) n l m =
-    ap (λ ds. cond (ltb n 10) ((48 + n) ∷ []) (ds ++ ((48 + n % 10) ∷ []))) (same-digits s t (n / 10) (tenth n s l) (tenth n t m))
-
-pub one-digit : (n : ℕ) → n < 10 → decimal n ≡ (48 + n) ∷ []
-unfolding decimal decimal-by
-one-digit zero l = refl
-one-digit (suc n) l = rw (lt-ltb (suc n) 10 l)
-
-pub more-digits : (n : ℕ) → 10 ≤ n → decimal n ≡ decimal (n / 10) ++ ((48 + n % 10) ∷ [])
-unfolding decimal decimal-by
-more-digits zero l = absurd (omega arith)
-more-digits (suc n) l =
-    rw (le-ltb (suc n) 10 l)
-    (ap (λ ds. ds ++ ((48 + suc n % 10) ∷ [])) (same-digits n (suc n / 10) (suc n / 10) (tenth (suc n) n (omega arith)) (omega arith)))
-
-pub digits-more : (n : ℕ) → 10 ≤ n → length (decimal n) ≡ length (decimal (n / 10)) + 1
-digits-more n l = ap length (more-digits n l) ∙ length-append (decimal (n / 10)) ((48 + n % 10) ∷ [])
 
 -- what is written leaves the buffer its length
 pub writes-length : {t t′ xs : List ℕ} {i n : ℕ} → Writes t i xs t′ n → length t′ ≡ length t
@@ -81,21 +54,6 @@ writes-all {t} {t′} {at} s i e w =
 -- a buffer's text with nothing more
 pub writes-none : (t : List ℕ) (i : ℕ) → Writes t i [] t i
 writes-none t i = record { written = refl; behind = sym (add-zero i) }
-
--- a 32-bit number has at most ten digits
-few-digits : (k n : ℕ) → n < 10 ^ suc k → length (decimal n) ≤ suc k
-few-digits zero n l = let one = ap length (one-digit n l) in omega arith
-few-digits (suc k) n l = by (ltb n 10) refl (few-digits k (n / 10))
-  where
-    by : (t : Bool) → ltb n 10 ≡ t → (n / 10 < 10 ^ suc k → length (decimal (n / 10)) ≤ suc k) → length (decimal n) ≤ suc (suc k)
-    by true e rest = let one = ap length (one-digit n (ltb-true n 10 e)) in omega arith
-    by false e rest =
-        let more = digits-more n (ltb-false n 10 e) in
-        let few = rest (omega arith) in
-        omega arith
-
-pub ten-digits : (n : ℕ) → n < 4294967296 → length (decimal n) ≤ 10
-ten-digits n l = few-digits 9 n (omega arith)
 
 -- room behind a place, tested without a sum that could be too large
 pub room-is : (at n : ℕ) → at ≤ n → leb longest (n - at) ≡ leb (at + longest) n

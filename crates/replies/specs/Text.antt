@@ -3,20 +3,15 @@
 use mathlib.Core.Bool.{cond}
 use mathlib.Core.List.{List, [], _∷_, _++_}
 use mathlib.Core.Path.{_≡_}
-use Prim.Native.Nat.{ℕ, zero, suc, _+_, _/_, _%_}
-use lib.Dec.{leb, ltb}
+use Prim.Native.Nat.{ℕ, _+_}
+use lib.Dec.{leb}
 use lib.ListN.{length}
 use lib.Seq.{sets}
+use Rattle.lines.specs.Letters.{bytes}
+use Rattle.lines.specs.Decimal.{decimal}
 use Rattle.clerk.specs.Clerk as Clerks
 
--- A number in decimal, as bytes. Each step takes a digit off a number over 9 and so makes it less: n steps are enough.
-unfoldable pub decimal-by : (steps n : ℕ) → List ℕ
-decimal-by zero n = (48 + n) ∷ []
-decimal-by (suc steps) n = cond (ltb n 10) ((48 + n) ∷ []) (decimal-by steps (n / 10) ++ ((48 + n % 10) ∷ []))
-
-unfoldable pub decimal : ℕ → List ℕ
-decimal n = decimal-by n n
-
+-- A space and a number in decimal.
 abbrev pub spaced : ℕ → List ℕ
 spaced n = 32 ∷ decimal n
 
@@ -24,12 +19,12 @@ abbrev pub all-spaced : List ℕ → List ℕ
 all-spaced [] = []
 all-spaced (n ∷ ns) = spaced n ++ all-spaced ns
 
--- A space and the word: AREA, CELL, NUMBER, REFUSED.
+-- A space and the word.
 abbrev pub spaced-word : Clerks.Word → List ℕ
-spaced-word Clerks.Area-set = 32 ∷ 65 ∷ 82 ∷ 69 ∷ 65 ∷ []
-spaced-word Clerks.Cell = 32 ∷ 67 ∷ 69 ∷ 76 ∷ 76 ∷ []
-spaced-word Clerks.Number = 32 ∷ 78 ∷ 85 ∷ 77 ∷ 66 ∷ 69 ∷ 82 ∷ []
-spaced-word Clerks.Refused = 32 ∷ 82 ∷ 69 ∷ 70 ∷ 85 ∷ 83 ∷ 69 ∷ 68 ∷ []
+spaced-word Clerks.Area-set = bytes " AREA"
+spaced-word Clerks.Cell = bytes " CELL"
+spaced-word Clerks.Number = bytes " NUMBER"
+spaced-word Clerks.Refused = bytes " REFUSED"
 
 abbrev pub body : Clerks.Said → List ℕ
 body s = spaced-word (s .word) ++ all-spaced (s .numbers)
@@ -39,7 +34,7 @@ unfoldable pub text : (line : ℕ) → Clerks.Said → List ℕ
 text line s = decimal line ++ (body s ++ (10 ∷ []))
 
 unfoldable pub stop : (line : ℕ) → List ℕ
-stop line = decimal line ++ (32 ∷ 83 ∷ 84 ∷ 79 ∷ 80 ∷ 10 ∷ [])
+stop line = decimal line ++ bytes " STOP\n"
 
 -- No text of a 32-bit line number and 32-bit numbers is longer than this.
 abbrev pub longest : ℕ

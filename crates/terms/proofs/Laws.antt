@@ -38,14 +38,14 @@ squares-limit w h e =
     omega arith
 
 -- the refusal of a number
-named : ℕ → Refusal
+pub named : ℕ → Refusal
 named n =
     cond (eqb n 1) AreaLimit
     (cond (eqb n 2) SquareOutside
     (cond (eqb n 3) NumberOutside
     (cond (eqb n 4) TableLength (cond (eqb n 5) NotANumber (cond (eqb n 6) WrongShape (cond (eqb n 7) NoArea (cond (eqb n 8) LongLine TooDeep)))))))
 
-named-back : (r : Refusal) → named (refusal-number r) ≡ r
+pub named-back : (r : Refusal) → named (refusal-number r) ≡ r
 unfolding named
 named-back AreaLimit = refl
 named-back SquareOutside = refl

@@ -6,7 +6,8 @@ use Prim.Native.Nat.{ℕ, _+_, _%_, _<_}
 use native.Mathlib.Omega.{arith}
 use lib.ListN.{length, set, length-set}
 use Rattle.replies.specs.Text.{Writes}
-use Rattle.replies.proofs.Writing.{one-digit, more-digits, digits-more, writes-byte, writes-both}
+use Rattle.lines.proofs.Decimals.{one-digit, more-digits, digits-more}
+use Rattle.replies.proofs.Writing.{writes-byte, writes-both}
 use borrow.Fn.Kinds.{In}
 use borrow.Fn.PlainCycle.{Measures, is, falls, and}
 use Rattle.replies.proofs.put_number.Reads as put-number

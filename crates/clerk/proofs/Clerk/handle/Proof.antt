@@ -1,6 +1,8 @@
 -- `clerk::Clerk::handle` meets its contract: reply and clerk are composed from the request.
 use borrow.Author.Needs.{needs}
 use mathlib.Core.Path.{ap, _∙_}
+use Rattle.lines.specs.Lines.{request}
+use Rattle.lines.proofs.Promises.{request-one}
 use Rattle.clerk.specs.Clerk.{due, begins-area, left-by, after, reply}
 use Rattle.clerk.proofs.Clerk.handle.Statement.{statement}
 use Rattle.clerk.proofs.Clerk.handle.Tie as tie
@@ -16,7 +18,11 @@ clerk-after-requires c κs = search needs
 
 returns : tie.Need-returns
 unfolding after reply
-returns c = (c .clerk-after .ensures ∙ ap (left-by (c .before .before .before .before .args .self) (begins-area (c .before .before .before .before .args .line .now))) (c .before .before .request-of .ensures), c .before .reply-to .ensures ∙ ap (due (c .before .before .before .before .args .self)) (c .before .before .request-of .ensures))
+returns c =
+    let start = c .before .before .before .before .args in
+    let line = start .line .now in
+    let asked = request-one (c .before .before .request-of .result) (request line) (c .before .before .request-of .ensures) in
+    (c .clerk-after .ensures ∙ ap (left-by (start .self) (begins-area line)) asked, c .before .reply-to .ensures ∙ ap (due (start .self)) asked)
 
 pub handle-spec : {M : Type 1} → statement M
 handle-spec =

@@ -1,0 +1,152 @@
+-- Document 01's sentences on the area in force, for every clerk and every line: which lines set it, which clear it, and that no other line alters it.
+-- A line begins with the word of what it asks, so that no N or S line begins with AREA, and every line that asks for an area does.
+use mathlib.Core.Bool.{Bool, true, false, cond}
+use mathlib.Core.List.{List, [], _∷_, _++_}
+use mathlib.Core.Path.{_≡_, refl, sym, ap, _∙_}
+use Prim.Native.Nat.{ℕ, _*_, _≤_}
+use native.Mathlib.Omega.{arith}
+use lib.Dec.{eqb, lit≤}
+use lib.ListN.{getD, take}
+use lib.Seq.{take-take}
+use Rattle.terms.specs.declared.Area.{Area}
+use Rattle.terms.specs.Terms.{accepted, Figures}
+use Rattle.terms.proofs.Laws.{limits}
+use Rattle.curve.specs.Lookups.{number-to-square, square-to-number, finish-square}
+use Rattle.lines.specs.declared.Request.{Request}
+use Rattle.lines.specs.declared.Request as Requests
+use Rattle.lines.specs.declared.Request.the-variants.{SetArea, AskNumber, AskSquare}
+use Rattle.lines.specs.Lines.{AREA, same-bytes, request}
+use Rattle.lines.proofs.Shapes.{same-itself, same-true}
+use Rattle.lines.proofs.Asking.{Begins, begins-so, with-two, area-spelt}
+use Rattle.clerk.specs.declared.Clerk.{Clerk}
+use Rattle.clerk.specs.declared.Clerk.the-variants.{NoArea, InForce}
+use Rattle.clerk.specs.Clerk as spec
+use Rattle.clerk.proofs.Handling.{value, word-mark, mark}
+
+-- An AREA reply's width and height are the area then in force: "An accepted AREA line sets the area for the lines below it."
+told-other : (word : spec.Word) (first : List ℕ) (f : Figures) (b : Bool) → 1 ≤ word-mark word
+    → mark (cond b (spec.says word (first ++ f .values)) (spec.says spec.Refused (f .refusal ∷ []))) ≡ 0 → ⊥
+told-other word first f true l e = omega arith
+told-other word first f false l e = omega arith
+
+under-other : (clerk : Clerk) (word : spec.Word) (f : Area → Figures) → 1 ≤ word-mark word → mark (spec.under clerk (λ area. spec.told word [] (f area))) ≡ 0 → ⊥
+under-other NoArea word f l e = omega arith
+under-other (InForce area) word f l e = told-other word [] (f area) (eqb (f area .refusal) 0) l e
+
+module _ (v u w h : ℕ) (rest : List ℕ) (e : spec.told spec.Area-set (v ∷ u ∷ (v * u) ∷ []) (finish-square v u) ≡ spec.says spec.Area-set (w ∷ h ∷ rest)) where
+  set-by : (t : Bool) → accepted v u ≡ t → spec.in-force (record { w = v; h = u }) ≡ InForce (record { w = w; h = h })
+  unfolding finish-square
+  set-by true ok =
+      let is : spec.told spec.Area-set (v ∷ u ∷ (v * u) ∷ []) (finish-square v u) ≡ spec.says spec.Area-set (v ∷ u ∷ (v * u) ∷ finish-square v u .values) = rw ok refl in
+      rw ok (λ i. InForce (record { w = value 0 ((sym is ∙ e) i); h = value 1 ((sym is ∙ e) i) }))
+  set-by false bad =
+      let is : mark (spec.told spec.Area-set (v ∷ u ∷ (v * u) ∷ []) (finish-square v u)) ≡ 3 = rw bad refl in
+      let other : mark (spec.told spec.Area-set (v ∷ u ∷ (v * u) ∷ []) (finish-square v u)) ≡ 0 = ap mark e in
+      absurd (omega arith)
+
+left-set : (clerk : Clerk) (begins : Bool) (q : Request) (w h : ℕ) (rest : List ℕ) → spec.due clerk q ≡ spec.says spec.Area-set (w ∷ h ∷ rest)
+    → spec.left-by clerk begins q ≡ InForce (record { w = w; h = h })
+left-set clerk begins (SetArea v u) w h rest e = set-by v u w h rest e (accepted v u) refl
+left-set clerk begins (AskNumber i) w h rest e = absurd (under-other clerk spec.Cell (λ area. number-to-square (area .w) (area .h) i) (lit≤ tt) (ap mark e))
+left-set clerk begins (AskSquare x y) w h rest e = absurd (under-other clerk spec.Number (λ area. square-to-number (area .w) (area .h) x y) (lit≤ tt) (ap mark e))
+left-set clerk begins (Requests.the-variants.Refused r) w h rest e = let other : _≡_ {A = ℕ} 3 0 = ap mark e in absurd (omega arith)
+
+pub set-in-force : (clerk : Clerk) (line : List ℕ) (w h : ℕ) (rest : List ℕ) → spec.reply clerk line ≡ spec.says spec.Area-set (w ∷ h ∷ rest)
+    → spec.after clerk line ≡ InForce (record { w = w; h = h })
+unfolding spec.reply spec.after
+set-in-force clerk line w h rest e = left-set clerk (spec.begins-area line) (request line) w h rest e
+
+-- an area that is refused, and one that is not
+module _ (w h : ℕ) where
+  abbrev reply-to-area : spec.Said
+  reply-to-area = spec.told spec.Area-set (w ∷ h ∷ (w * h) ∷ []) (finish-square w h)
+
+  set-or-refused : (t : Bool) → accepted w h ≡ t → mark reply-to-area ≡ cond t 0 3
+  unfolding finish-square
+  set-or-refused true e = rw e refl
+  set-or-refused false e = rw e refl
+
+  refused-set : reply-to-area .word ≡ spec.Refused → accepted w h ≡ false
+  refused-set e = by (accepted w h) refl
+    where
+      by : (t : Bool) → accepted w h ≡ t → accepted w h ≡ false
+      by false p = p
+      by true p = let is = ap word-mark e in let other = set-or-refused true p in absurd (omega arith)
+
+  answered-set : (reply-to-area .word ≡ spec.Refused → ⊥) → accepted w h ≡ true
+  unfolding finish-square
+  answered-set n = by (accepted w h) refl
+    where
+      by : (t : Bool) → accepted w h ≡ t → accepted w h ≡ true
+      by true p = p
+      by false p = absurd (n (rw p refl))
+
+-- no line begins with a letter other than A and with AREA
+other-letter : (line known : List ℕ) → (getD known 0 0 ≡ 65 → ⊥) → take 1 line ≡ known → take 4 line ≡ AREA → ⊥
+other-letter line known other begun area =
+    other (ap (λ s. getD s 0 0) (sym begun ∙ sym (take-take 1 4 line (lit≤ tt)) ∙ ap (take 1) area))
+
+-- An accepted AREA line: it asks for an area that is accepted, and sets that.
+pub record Sets (clerk : Clerk) (line : List ℕ) : Type 0 where
+  pub w : ℕ
+  pub h : ℕ
+  pub asks : request line ≡ SetArea w h
+  pub within : accepted w h ≡ true
+  pub set : spec.after clerk line ≡ InForce (record { w = w; h = h })
+
+module _ (clerk : Clerk) (line : List ℕ) where
+  begins-is : take 4 line ≡ AREA → spec.begins-area line ≡ true
+  begins-is e = ap (λ s. same-bytes s AREA) e ∙ same-itself AREA
+
+  begins-not : (take 4 line ≡ AREA → ⊥) → spec.begins-area line ≡ false
+  begins-not other = by (spec.begins-area line) refl
+    where
+      by : (t : Bool) → spec.begins-area line ≡ t → spec.begins-area line ≡ false
+      by false e = e
+      by true e = absurd (other (same-true (take 4 line) AREA e))
+
+  -- "A refused line whose first four bytes are AREA leaves no area in force, for any reason of refusal."
+  refused-by : (q : Request) → Begins q line → take 4 line ≡ AREA → spec.due clerk q .word ≡ spec.Refused
+      → spec.left-by clerk (spec.begins-area line) q ≡ NoArea
+  refused-by (SetArea w h) b area e = rw (refused-set w h e) refl
+  refused-by (AskNumber i) b area e = absurd (other-letter line (78 ∷ []) (λ z. omega arith) b area)
+  refused-by (AskSquare x y) b area e = absurd (other-letter line (83 ∷ []) (λ z. omega arith) b area)
+  refused-by (Requests.the-variants.Refused r) b area e = rw (begins-is area) refl
+
+  pub refused-leaves-none : take 4 line ≡ AREA → spec.reply clerk line .word ≡ spec.Refused → spec.after clerk line ≡ NoArea
+  unfolding spec.reply spec.after
+  refused-leaves-none = refused-by (request line) (begins-so line)
+
+  -- "No other line alters the area": a line that does not begin so leaves the clerk as it was.
+  other-by : (q : Request) → Begins q line → (take 4 line ≡ AREA → ⊥) → spec.left-by clerk (spec.begins-area line) q ≡ clerk
+  other-by (SetArea w h) b other = absurd (other b)
+  other-by (AskNumber i) b other = refl
+  other-by (AskSquare x y) b other = refl
+  other-by (Requests.the-variants.Refused r) b other = rw (begins-not other) refl
+
+  pub others-alter-nothing : (take 4 line ≡ AREA → ⊥) → spec.after clerk line ≡ clerk
+  unfolding spec.after
+  others-alter-nothing = other-by (request line) (begins-so line)
+
+  -- "An accepted AREA line sets the area for the lines below it": a line that begins so and is not refused sets exactly the area that it asks for.
+  accepted-by : (q : Request) → request line ≡ q → Begins q line → take 4 line ≡ AREA → (spec.due clerk q .word ≡ spec.Refused → ⊥) → Sets clerk line
+  unfolding spec.after
+  accepted-by (SetArea w h) is b area e =
+      let ok = answered-set w h e in
+      record { w = w; h = h; asks = is; within = ok; set = ap (spec.left-by clerk (spec.begins-area line)) is ∙ rw ok refl }
+  accepted-by (AskNumber i) is b area e = absurd (other-letter line (78 ∷ []) (λ z. omega arith) b area)
+  accepted-by (AskSquare x y) is b area e = absurd (other-letter line (83 ∷ []) (λ z. omega arith) b area)
+  accepted-by (Requests.the-variants.Refused r) is b area e = absurd (e refl)
+
+  pub accepted-sets : take 4 line ≡ AREA → (spec.reply clerk line .word ≡ spec.Refused → ⊥) → Sets clerk line
+  unfolding spec.reply
+  accepted-sets = accepted-by (request line) refl (begins-so line)
+
+-- So the line `AREA w h` of every area within the limit sets that area, whatever was in force.
+pub area-line-sets : (clerk : Clerk) (w h : ℕ) → accepted w h ≡ true → spec.after clerk (with-two AREA w h) ≡ InForce (record { w = w; h = h })
+unfolding spec.after
+area-line-sets clerk w h ok =
+    let all = limits w h ok in
+    let wide = all .w-most in
+    let high = all .h-most in
+    ap (spec.left-by clerk (spec.begins-area (with-two AREA w h))) (area-spelt w h (omega arith) (omega arith)) ∙ rw ok refl
