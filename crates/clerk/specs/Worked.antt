@@ -1,0 +1,169 @@
+-- Order lines worked by hand, as one table under one claim, which computes: those that document 01 gives under "Order lines", "Squares worked by hand" and
+-- "Errors a good programmer makes here", and for each of its sentences on lines some of our own. What a CELL or a NUMBER says is worked in the division's
+-- tables; here stand refusals, by their numbers and in their order, and the area in force after each line.
+use mathlib.Core.Bool.{Bool, true, false, _&&_}
+use mathlib.Core.List.{List, [], _∷_, _++_}
+use Prim.Native.Nat.{ℕ, _+_}
+use Prim.Native.String.{String}
+use lib.Dec.{T, eqb}
+use lib.ListN.{replicate}
+use Rattle.terms.specs.declared.Area.{Area}
+use Rattle.terms.specs.Terms.{accepted}
+use Rattle.curve.specs.Lookups.{number-to-square, square-to-number, finish-square}
+use Rattle.lines.specs.Letters.{bytes}
+use Rattle.lines.specs.Lines.{fields, all-digits, value-on, is-number, numeral, same-bytes, shaped, request}
+use Rattle.clerk.specs.declared.Clerk.{Clerk}
+use Rattle.clerk.specs.declared.Clerk.the-variants.{NoArea, InForce}
+use Rattle.clerk.specs.Clerk.{Word, Area-set, Cell, Number, Refused, Said, after, reply}
+
+-- A line of the table.
+pub data Case : Type 0 where
+  -- with no area in force a line is refused so, and none is in force after it
+  with-none : String → (refusal : ℕ) → Case
+  -- under 3 by 4 a line is refused so, and that area stays in force
+  stays : String → (refusal : ℕ) → Case
+  -- under 3 by 4 a line is refused so, and no area is in force after it
+  clears : String → (refusal : ℕ) → Case
+  -- whatever is in force, a line sets w by h, and its reply is AREA with these numbers
+  sets : String → (w h squares x y : ℕ) → Case
+  -- under 3 by 4 a line of bytes that are too many to write out is refused so, and leaves that area, or none
+  long-stays : List ℕ → (refusal : ℕ) → Case
+  long-clears : List ℕ → (refusal : ℕ) → Case
+
+three-by-four : Clerk
+three-by-four = InForce (record { w = 3; h = 4 })
+
+same-numbers : List ℕ → List ℕ → Bool
+same-numbers [] [] = true
+same-numbers [] (n ∷ ns) = false
+same-numbers (m ∷ ms) [] = false
+same-numbers (m ∷ ms) (n ∷ ns) = eqb m n && same-numbers ms ns
+
+is-refusal : ℕ → Said → Bool
+is-refusal r s = by (s .word) (s .numbers)
+  where
+    by : Word → List ℕ → Bool
+    by Area-set numbers = false
+    by Cell numbers = false
+    by Number numbers = false
+    by Refused numbers = same-numbers numbers (r ∷ [])
+
+is-area : List ℕ → Said → Bool
+is-area due s = by (s .word) (s .numbers)
+  where
+    by : Word → List ℕ → Bool
+    by Area-set numbers = same-numbers numbers due
+    by Cell numbers = false
+    by Number numbers = false
+    by Refused numbers = false
+
+holds-none : Clerk → Bool
+holds-none NoArea = true
+holds-none (InForce area) = false
+
+holds : ℕ → ℕ → Clerk → Bool
+holds w h NoArea = false
+holds w h (InForce area) = eqb (area .w) w && eqb (area .h) h
+
+right : Case → Bool
+right (with-none line r) = is-refusal r (reply NoArea (bytes line)) && holds-none (after NoArea (bytes line))
+right (stays line r) = is-refusal r (reply three-by-four (bytes line)) && holds 3 4 (after three-by-four (bytes line))
+right (clears line r) = is-refusal r (reply three-by-four (bytes line)) && holds-none (after three-by-four (bytes line))
+right (sets line w h squares x y) =
+    is-area (w ∷ h ∷ squares ∷ x ∷ y ∷ []) (reply NoArea (bytes line))
+    && is-area (w ∷ h ∷ squares ∷ x ∷ y ∷ []) (reply three-by-four (bytes line))
+    && holds w h (after NoArea (bytes line))
+    && holds w h (after three-by-four (bytes line))
+right (long-stays line r) = is-refusal r (reply three-by-four line) && holds 3 4 (after three-by-four line)
+right (long-clears line r) = is-refusal r (reply three-by-four line) && holds-none (after three-by-four line)
+
+pub all-right : List Case → Bool
+all-right [] = true
+all-right (c ∷ cs) = right c && all-right cs
+
+pub worked : List Case
+worked =
+    -- "AREA w h n fx fy"; each length from 1 to 65,535
+    sets "AREA 3 4" 3 4 12 2 0
+    ∷ sets "AREA 1 1" 1 1 1 0 0
+    ∷ sets "AREA 65535 65535" 65535 65535 4294836225 65534 0
+    ∷ clears "AREA 0 4" 1
+    ∷ clears "AREA 4 0" 1
+    ∷ clears "AREA 65536 1" 1
+    ∷ clears "AREA 1 65536" 1
+    -- "whose first four bytes are AREA", "for any reason of refusal": 1 above, 5, 6 and 8
+    ∷ clears "AREA 3E4 4" 5
+    ∷ clears "AREA 3 +4" 5
+    ∷ clears "AREA 3 4\r" 5
+    ∷ clears "AREA" 6
+    ∷ clears "AREA " 6
+    ∷ clears "AREA 3" 6
+    ∷ clears "AREA 3 " 6
+    ∷ clears "AREA 3 4 5" 6
+    ∷ clears "AREA  3 4" 6
+    ∷ clears "AREAX 3 4" 6
+    ∷ clears "AREA\t3 4" 6
+    ∷ long-clears (bytes "AREA 3 4" ++ replicate 57 32) 8
+    -- "No other line alters the area"
+    ∷ stays "area 3 4" 6
+    ∷ stays " AREA 3 4" 6
+    ∷ stays "ARE" 6
+    ∷ stays "AREB 3 4" 6
+    -- the numbers of the example and of "A number is 1 to 10 digits": refusal 5, and 3 for a number that the area has not
+    ∷ stays "N 3E4" 5
+    ∷ stays "N +7" 5
+    ∷ stays "N -7" 5
+    ∷ stays "N 07" 5
+    ∷ stays "N 00" 5
+    ∷ stays "N 7.0" 5
+    ∷ stays "N 7\r" 5
+    ∷ stays "N 7\t" 5
+    ∷ stays "N x" 5
+    ∷ stays "N 12" 3
+    ∷ stays "N 4294967295" 3
+    ∷ stays "N 4294967296" 5
+    ∷ stays "N 9999999999" 5
+    ∷ stays "N 00000000012" 5
+    ∷ stays "N 42949672950" 5
+    ∷ stays "S 3 0" 2
+    ∷ stays "S 0 4" 2
+    ∷ stays "S 4294967295 0" 2
+    ∷ stays "S 07 0" 5
+    ∷ stays "S 0 3E4" 5
+    -- "An unknown first word, a missing, extra or empty field, or an empty line is refusal 6", before 5
+    ∷ stays "" 6
+    ∷ stays " " 6
+    ∷ stays "N" 6
+    ∷ stays "N " 6
+    ∷ stays "N 3 " 6
+    ∷ stays "N  3" 6
+    ∷ stays " N 3" 6
+    ∷ stays "N 3 4" 6
+    ∷ stays "N x y" 6
+    ∷ stays "n 3" 6
+    ∷ stays "NN 3" 6
+    ∷ stays "N\t3" 6
+    ∷ stays "N\r" 6
+    ∷ stays "S 1" 6
+    ∷ stays "S 1 2 3" 6
+    ∷ stays "S x " 6
+    ∷ stays "s 1 2" 6
+    ∷ stays "3 N" 6
+    -- "a line has over 64 bytes": 64 pass, and 8 comes before 6 and 5
+    ∷ long-stays (bytes "N " ++ replicate 62 55) 5
+    ∷ long-stays (bytes "N " ++ replicate 63 55) 8
+    ∷ long-stays (replicate 64 88) 6
+    ∷ long-stays (replicate 65 88) 8
+    -- "N or S line with no area in force": 7, after 6 and 5 and before the library's own
+    ∷ with-none "N 0" 7
+    ∷ with-none "N 99999" 7
+    ∷ with-none "S 1 1" 7
+    ∷ with-none "N x" 5
+    ∷ with-none "N" 6
+    ∷ with-none "S 1 x" 5
+    ∷ with-none "AREA 0 4" 1
+    ∷ []
+
+pub worked-right : T (all-right worked)
+unfolding worked all-right right same-numbers is-refusal is-area holds-none holds three-by-four reply after request shaped fields same-bytes numeral is-number all-digits value-on accepted number-to-square square-to-number finish-square
+worked-right = tt
