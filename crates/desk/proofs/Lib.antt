@@ -3,4 +3,5 @@ pub mod Feeding
 pub mod Going
 pub mod Stream
 pub mod Attached
+pub mod Example
 pub mod Promises

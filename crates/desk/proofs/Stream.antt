@@ -4,6 +4,7 @@ use mathlib.Core.Bool.{Bool, true, false, cond}
 use mathlib.Core.List.{List, [], _∷_, _++_, append-assoc, append-nil}
 use mathlib.Core.Path.{_≡_, refl, sym, ap, ap₂, subst, _∙_}
 use Prim.Native.Nat.{ℕ, suc, _+_, _≤_, _<_}
+use native.Mathlib.Nat.{le-refl}
 use native.Mathlib.Omega.{arith}
 use borrow.Author.Tests.{ltb-true, ltb-false, le-leb, lt-leb, eqb-true, eqb-false, eq-eqb, ne-eqb}
 use lib.Dec.{leb, ltb, eqb}
@@ -16,7 +17,7 @@ use Rattle.clerk.proofs.Promises.{reply-kept, after-kept}
 use Rattle.replies.specs.Text.{text, stop, longest}
 use Rattle.desk.specs.declared.Desk.{Desk}
 use Rattle.desk.specs.Desk.{lines-of, answers, output}
-use Rattle.desk.specs.Steps.{begun-line, at-first, next-desk, next-kept, prints, prints-last, Result, still, onward, fed, in-order, fed-any}
+use Rattle.desk.specs.Steps.{begun-line, at-first, next-desk, next-kept, prints, prints-last, Result, still, onward, fed, in-order, fed-any, prints-last-any}
 use Rattle.desk.specs.Runs.{Printed, ended, closed, piece-fed}
 use Rattle.desk.proofs.Feeding.{still-ordered, kept-length}
 use Rattle.desk.proofs.Going.{is-fed, fed-in-order}
@@ -201,3 +202,23 @@ whole-printed {kept} room run = printed-due run (in-order-is at-first kept (omeg
 
 pub however-cut : {kept kept′ input one other : List ℕ} → 65 ≤ length kept → 65 ≤ length kept′ → Printed at-first kept input one → Printed at-first kept′ input other → one ≡ other
 however-cut room room′ run run′ = whole-printed room run ∙ sym (whole-printed room′ run′)
+
+-- Every input has a run, so that the words above never speak of nothing: byte by byte, into an output of any size that has room for the longest text.
+module _ (size : ℕ) (room : longest ≤ size) where
+  one-taken : (d : Desk) (kept : List ℕ) → in-order d kept ≡ true → (b : ℕ) → fed-any d kept 0 size (b ∷ []) .taken ≡ 1
+  unfolding fed
+  one-taken d kept ok b =
+      ap (λ (r : Result). r .taken) (is-fed d kept ok 0 size (b ∷ [])) ∙ rw (le-leb (0 + longest) size room) refl
+
+  byte-by-byte : (d : Desk) (kept input : List ℕ) → in-order d kept ≡ true → (printed : List ℕ) × Printed d kept input printed
+  byte-by-byte d kept [] ok = (prints-last-any d kept, ended d kept)
+  byte-by-byte d kept (b ∷ rest) ok =
+      let r = fed-any d kept 0 size (b ∷ []) in
+      let on = byte-by-byte (r .desk) (r .kept) rest (fed-in-order d kept ok 0 size (b ∷ [])) in
+      let left : rest ≡ drop (r .taken) (b ∷ []) ++ rest = ap (λ n. drop n (b ∷ []) ++ rest) (sym (one-taken d kept ok b)) in
+      (r .printed ++ on .0, piece-fed d kept 0 size (b ∷ []) rest (on .0) (subst (λ (zs : List ℕ). Printed (r .desk) (r .kept) zs (on .0)) left (on .1)))
+
+pub every-input : (kept input : List ℕ) → 65 ≤ length kept → Printed at-first kept input (output input)
+every-input kept input room =
+    let run = byte-by-byte longest (le-refl longest) at-first kept input (in-order-is at-first kept (omega arith) room) in
+    subst (λ (zs : List ℕ). Printed at-first kept input zs) (whole-printed room (run .1)) (run .1)

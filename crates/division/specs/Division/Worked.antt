@@ -1,6 +1,7 @@
 -- The squares worked by hand that document 01 marks P, as a single table under one claim, which computes.
 use mathlib.Core.Bool.{Bool, true, false, _&&_}
 use mathlib.Core.List.{List, [], _∷_}
+use mathlib.Core.Path.{_≡_, refl}
 use Prim.Native.Nat.{ℕ}
 use lib.Dec.{T, eqb}
 use lib.ListN.{length}
@@ -58,3 +59,12 @@ worked =
 pub worked-right : T (all-right worked)
 unfolding worked all-right right is sames same square-of number-of blocks-holding place-in curve blocks down parts parts-of part choice even-half whole moved against row curve-by within holds count mathlib.Core.List.flatten
 worked-right = tt
+
+-- Number 8 of the 3 by 4 area, as document 01's example of order lines has it, and how many blocks hold it.
+pub eighth : square-of (whole 3 4) 8 ≡ square 2 1
+unfolding square-of curve down parts parts-of part choice even-half whole moved against row curve-by mathlib.Core.List.flatten
+eighth = refl
+
+pub eighth-held : blocks-holding (whole 3 4) (square 2 1) ≡ 3
+unfolding blocks-holding blocks down parts parts-of part choice even-half whole moved against within holds count mathlib.Core.List.flatten
+eighth-held = refl

@@ -1,0 +1,123 @@
+-- Document 01's example of order lines, from the definitions alone: its input gives exactly its output. The squares are the division's own, by `Worked`.
+use mathlib.Core.Bool.{true, false, cond}
+use mathlib.Core.List.{List, [], _∷_, _++_}
+use mathlib.Core.Path.{_≡_, refl, sym, ap, ap₂, _∙_}
+use Prim.Native.Nat.{ℕ, _+_}
+use Prim.Native.String.{String}
+use native.Mathlib.Nat.{le-refl}
+use native.Mathlib.Omega.{arith}
+use lib.Dec.{leb, eqb, lit<}
+use Rattle.terms.specs.declared.Refusal.the-variants.{NumberOutside}
+use Rattle.terms.specs.Terms.{accepted, answered, refused}
+use Rattle.terms.proofs.Laws.{bit}
+use Rattle.division.specs.Division.{Square, whole, blocks-holding}
+use Rattle.division.specs.Division.Worked.{eighth, eighth-held}
+use Rattle.curve.specs.Lookups.{number-to-square, square-to-number, finish-square}
+use Rattle.curve.proofs.Answers.{number-outside}
+use Rattle.curve.proofs.Promises.{number-answered, number-back}
+use Rattle.lines.specs.Letters.{bytes}
+use Rattle.lines.specs.Lines.{fields, all-digits, value-on, is-number, numeral, AREA, same-bytes, shaped, request}
+use Rattle.lines.specs.Decimal.{decimal-by, decimal}
+use Rattle.lines.proofs.Shapes.{same-itself}
+use Rattle.clerk.specs.declared.Clerk.{Clerk}
+use Rattle.clerk.specs.declared.Clerk.the-variants.{NoArea, InForce}
+use Rattle.clerk.specs.Clerk.{Area-set, Cell, Number, Refused, Said, says, told, begins-area, after, reply}
+use Rattle.clerk.proofs.Areas.{others-alter-nothing}
+use Rattle.replies.specs.Text.{text}
+use Rattle.desk.specs.Desk.{lines-of, answers, output}
+
+accepts : accepted 3 4 ≡ true
+unfolding accepted
+accepts = refl
+
+cell : number-to-square 3 4 8 ≡ answered (2 ∷ 1 ∷ 3 ∷ [])
+cell =
+    number-answered 3 4 accepts 8 (lit< tt)
+    ∙ ap (λ (s : Square). answered (s .x ∷ s .y ∷ blocks-holding (whole 3 4) s ∷ [])) eighth
+    ∙ ap (λ n. answered (2 ∷ 1 ∷ n ∷ [])) eighth-held
+
+number : square-to-number 3 4 2 1 ≡ answered (8 ∷ 3 ∷ [])
+number = number-back 3 4 8 2 1 3 cell
+
+past-the-end : number-to-square 3 4 12 ≡ refused NumberOutside 3
+past-the-end = sym (number-outside 3 4 accepts 12 (le-refl 12))
+
+abbrev pub input : String
+input = "AREA 3 4\nN 8\nS 2 1\nN 3E4\nN 12\n"
+
+abbrev pub printed : String
+printed = "1 AREA 3 4 12 2 0\n2 CELL 2 1 3\n3 NUMBER 8 3\n4 REFUSED 5\n5 REFUSED 3\n"
+
+-- one line answered, and the rest with the area then in force
+line-answered : (clerk : Clerk) (n : ℕ) (line : List ℕ) (lines : List (List ℕ)) (said : Said) (left : Clerk) → leb n 65535 ≡ true → reply clerk line ≡ said
+    → after clerk line ≡ left → answers clerk n (line ∷ lines) ≡ text n said ++ answers left (n + 1) lines
+unfolding answers
+line-answered clerk n line lines said left l r a = rw l (ap₂ (λ s c. text n s ++ answers c (n + 1) lines) r a)
+
+three-by-four : Clerk
+three-by-four = InForce (record { w = 3; h = 4 })
+
+-- the five replies, and that only the first line alters the area
+set : reply NoArea (bytes "AREA 3 4") ≡ says Area-set (3 ∷ 4 ∷ 12 ∷ 2 ∷ 0 ∷ [])
+unfolding reply request shaped fields same-bytes numeral is-number all-digits value-on accepted finish-square
+set = refl
+
+asked-number : reply three-by-four (bytes "N 8") ≡ says Cell (2 ∷ 1 ∷ 3 ∷ [])
+unfolding three-by-four reply request shaped fields same-bytes numeral is-number all-digits value-on
+asked-number = ap (told Cell []) cell
+
+asked-square : reply three-by-four (bytes "S 2 1") ≡ says Number (8 ∷ 3 ∷ [])
+unfolding three-by-four reply request shaped fields same-bytes numeral is-number all-digits value-on
+asked-square = ap (told Number []) number
+
+no-number : reply three-by-four (bytes "N 3E4") ≡ says Refused (5 ∷ [])
+unfolding reply request shaped fields same-bytes numeral is-number all-digits value-on
+no-number = refl
+
+too-high : reply three-by-four (bytes "N 12") ≡ says Refused (3 ∷ [])
+unfolding three-by-four reply request shaped fields same-bytes numeral is-number all-digits value-on
+too-high = ap (told Cell []) past-the-end
+
+sets-it : after NoArea (bytes "AREA 3 4") ≡ three-by-four
+unfolding three-by-four after request shaped fields same-bytes numeral is-number all-digits value-on accepted
+sets-it = refl
+
+keeps-it : (line : List ℕ) → begins-area line ≡ false → after three-by-four line ≡ three-by-four
+keeps-it line e = others-alter-nothing three-by-four line (λ begins. let z : _≡_ {A = ℕ} 0 1 = ap bit (sym e ∙ ap (λ b. same-bytes b AREA) begins ∙ same-itself AREA) in omega arith)
+
+-- the input's five lines
+abbrev the-lines : List (List ℕ)
+the-lines = bytes "AREA 3 4" ∷ bytes "N 8" ∷ bytes "S 2 1" ∷ bytes "N 3E4" ∷ bytes "N 12" ∷ []
+
+cut : lines-of (bytes input) ≡ the-lines
+unfolding lines-of
+cut = refl
+
+-- what is said of each, and the texts of that one behind the other
+abbrev said : ℕ → Said
+said n =
+    cond (eqb n 1) (says Area-set (3 ∷ 4 ∷ 12 ∷ 2 ∷ 0 ∷ []))
+    (cond (eqb n 2) (says Cell (2 ∷ 1 ∷ 3 ∷ []))
+    (cond (eqb n 3) (says Number (8 ∷ 3 ∷ [])) (cond (eqb n 4) (says Refused (5 ∷ [])) (says Refused (3 ∷ [])))))
+
+joined : text 1 (said 1) ++ (text 2 (said 2) ++ (text 3 (said 3) ++ (text 4 (said 4) ++ (text 5 (said 5) ++ [])))) ≡ bytes printed
+unfolding text decimal decimal-by
+joined = refl
+
+-- a line of the four that leave the area, answered before what is left of them
+next : (n : ℕ) (line : List ℕ) (lines : List (List ℕ)) (rest : List ℕ) → leb n 65535 ≡ true → begins-area line ≡ false → reply three-by-four line ≡ said n
+    → answers three-by-four (n + 1) lines ≡ rest → answers three-by-four n (line ∷ lines) ≡ text n (said n) ++ rest
+next n line lines rest l other r e =
+    line-answered three-by-four n line lines (said n) three-by-four l r (keeps-it line other) ∙ ap (λ t. text n (said n) ++ t) e
+
+pub example : output (bytes input) ≡ bytes printed
+unfolding output answers same-bytes
+example =
+    let fifth = next 5 (bytes "N 12") [] [] refl refl too-high refl in
+    let fourth = next 4 (bytes "N 3E4") (bytes "N 12" ∷ []) (text 5 (said 5) ++ []) refl refl no-number fifth in
+    let third = next 3 (bytes "S 2 1") (bytes "N 3E4" ∷ bytes "N 12" ∷ []) (text 4 (said 4) ++ (text 5 (said 5) ++ [])) refl refl asked-square fourth in
+    let second = next 2 (bytes "N 8") (bytes "S 2 1" ∷ bytes "N 3E4" ∷ bytes "N 12" ∷ []) (text 3 (said 3) ++ (text 4 (said 4) ++ (text 5 (said 5) ++ []))) refl refl asked-number third in
+    ap (answers NoArea 1) cut
+    ∙ line-answered NoArea 1 (bytes "AREA 3 4") (bytes "N 8" ∷ bytes "S 2 1" ∷ bytes "N 3E4" ∷ bytes "N 12" ∷ []) (said 1) three-by-four refl set sets-it
+    ∙ ap (λ t. text 1 (said 1) ++ t) second
+    ∙ joined
