@@ -2,7 +2,7 @@
 -- one that keeps a former area, one without an area and one that takes any area are turned away.
 use mathlib.Core.Bool.{Bool, true, false, cond}
 use mathlib.Core.List.{List, [], _∷_}
-use mathlib.Core.Path.{_≡_, refl, sym, ap, ap₂, _∙_}
+use mathlib.Core.Path.{_≡_, refl, ap, ap₂}
 use Prim.Native.Nat.{ℕ}
 use native.Mathlib.Omega.{arith}
 use borrow.Author.Tests.{lt-leb, leb-true, leb-false}
@@ -12,6 +12,7 @@ use lib.Seq.{take-take, take-all}
 use Rattle.terms.specs.declared.Area.{Area}
 use Rattle.terms.specs.Terms.{accepted}
 use Rattle.terms.proofs.Laws.{named, named-back}
+use Rattle.terms.proofs.Ones.{one-equation, by-figures}
 use Rattle.lines.specs.Lines.{fields, all-digits, value-on, is-number, numeral, AREA, same-bytes, shaped, request}
 use Rattle.clerk.specs.declared.Clerk.{Clerk}
 use Rattle.clerk.specs.declared.Clerk.the-variants.{NoArea, InForce}
@@ -35,14 +36,13 @@ said-back (Cell x y blocks) = refl
 said-back (Number number blocks) = refl
 said-back (Refused r) = ap Refused (named-back r)
 
--- Two replies that meet a promise are one.
-pub reply-one : (r s : Reply) → spec.said r ≡ spec.said s → r ≡ s
-reply-one r s e = sym (said-back r) ∙ ap of-said e ∙ said-back s
+reply-one : (r s : Reply) {d : spec.Said} → spec.said r ≡ d → spec.said s ≡ d → r ≡ s
+reply-one = by-figures spec.said of-said said-back
 
--- So are a clerk and a reply that meet it.
-pub handled-one : (r s : Handled) (clerk : Clerk) (said : spec.Said) → (r .clerk ≡ clerk) × (spec.said (r .reply) ≡ said) → (s .clerk ≡ clerk) × (spec.said (s .reply) ≡ said) → r ≡ s
-handled-one r s clerk said p q =
-    λ i. record { clerk = (p .0 ∙ sym (q .0)) i; reply = reply-one (r .reply) (s .reply) (p .1 ∙ sym (q .1)) i }
+-- Two results that meet the promise of `handle` are one, clerk and reply.
+pub handled-one : (r s : Handled) {clerk : Clerk} {said : spec.Said} → (r .clerk ≡ clerk) × (spec.said (r .reply) ≡ said)
+    → (s .clerk ≡ clerk) × (spec.said (s .reply) ≡ said) → r ≡ s
+handled-one r s p q = λ i. record { clerk = one-equation (p .0) (q .0) i; reply = reply-one (r .reply) (s .reply) (p .1) (q .1) i }
 
 -- A line's first 65 bytes decide: what lies beyond them need not be kept.
 module _ (line : List ℕ) where

@@ -9,6 +9,7 @@ use lib.Dec.{T, eqb}
 use lib.ListN.{replicate}
 use Rattle.terms.specs.declared.Area.{Area}
 use Rattle.terms.specs.Terms.{accepted}
+use Rattle.terms.specs.Comparing.{same-numbers}
 use Rattle.curve.specs.Lookups.{number-to-square, square-to-number, finish-square}
 use Rattle.lines.specs.Letters.{bytes}
 use Rattle.lines.specs.Lines.{fields, all-digits, value-on, is-number, numeral, same-bytes, shaped, request}
@@ -32,12 +33,6 @@ pub data Case : Type 0 where
 
 three-by-four : Clerk
 three-by-four = InForce (record { w = 3; h = 4 })
-
-same-numbers : List ℕ → List ℕ → Bool
-same-numbers [] [] = true
-same-numbers [] (n ∷ ns) = false
-same-numbers (m ∷ ms) [] = false
-same-numbers (m ∷ ms) (n ∷ ns) = eqb m n && same-numbers ms ns
 
 is-refusal : ℕ → Said → Bool
 is-refusal r s = by (s .word) (s .numbers)

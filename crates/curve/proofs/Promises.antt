@@ -1,15 +1,16 @@
 -- What the lookups' promises come to: each accepted number and square is answered, each lookup undoes the other with the same count, the count
 -- meets demand 3, an answer that meets a promise is the only one, and the wrong programs that a promise turns away.
-use mathlib.Core.Bool.{Bool, true, false}
+use mathlib.Core.Bool.{Bool, true, false, cond}
 use mathlib.Core.List.{List, [], _∷_}
 use mathlib.Core.Path.{_≡_, refl, sym, ap, ap₂, subst, subst⁻¹, _∙_}
 use Prim.Native.Nat.{ℕ, _*_, _^_, _≤_, _<_}
 use native.Mathlib.Omega.{arith}
 use borrow.Author.Tests.{lt-ltb, le-leb, ltb-true, ltb-false}
-use lib.Dec.{ltb, lit<, lit≤}
+use lib.Dec.{ltb, eqb, lit<, lit≤}
 use Rattle.terms.specs.declared.Refusal.{Refusal}
-use Rattle.terms.specs.Terms.{accepted, answered}
-use Rattle.terms.proofs.Laws.{limits, refusal-one, refusal-some, value}
+use Rattle.terms.specs.Terms.{accepted, Figures, answered}
+use Rattle.terms.proofs.Laws.{limits, named, named-back, refusal-some, refusal-not-0, value}
+use Rattle.terms.proofs.Ones.{by-figures}
 use Rattle.division.specs.declared.Choice.the-variants.{UCut}
 use Rattle.division.specs.Division.{Square, square, whole, choice, parts-of, square-of, number-of, blocks-holding}
 use Rattle.division.specs.Division.Rules.{parts-are}
@@ -111,25 +112,40 @@ count-bound w h n x y k e l =
 pub square-count-bound : (w h x y n k : ℕ) → square-to-number w h x y ≡ answered (n ∷ k ∷ []) → 1 < k → 3 ^ k ≤ 2 ^ k * (w * h)
 square-count-bound w h x y n k e l = count-bound w h n x y k (square-back w h x y n k e) l
 
--- Two answers that meet a promise are one.
-pub square-one : (r s : SquareAnswers.SquareAnswer) → square-figures r ≡ square-figures s → r ≡ s
-square-one (SquareAnswers.the-variants.Found x y k) (SquareAnswers.the-variants.Found u v l) e =
-    λ i. SquareAnswers.the-variants.Found (value 0 (e i)) (value 1 (e i)) (value 2 (e i))
-square-one (SquareAnswers.the-variants.Found x y k) (SquareAnswers.the-variants.Refused t) e = absurd (refusal-some t (sym (ap (λ f. f .refusal) e)))
-square-one (SquareAnswers.the-variants.Refused r) (SquareAnswers.the-variants.Found u v l) e = absurd (refusal-some r (ap (λ f. f .refusal) e))
-square-one (SquareAnswers.the-variants.Refused r) (SquareAnswers.the-variants.Refused t) e = ap SquareAnswers.the-variants.Refused (refusal-one r t (ap (λ f. f .refusal) e))
+-- Two answers that meet a promise are one: an answer can be told from its figures.
+square-from : Figures → SquareAnswers.SquareAnswer
+square-from f =
+    cond (eqb (f .refusal) 0) (SquareAnswers.the-variants.Found (value 0 f) (value 1 f) (value 2 f)) (SquareAnswers.the-variants.Refused (named (f .refusal)))
 
-pub number-one : (r s : NumberAnswers.NumberAnswer) → number-figures r ≡ number-figures s → r ≡ s
-number-one (NumberAnswers.the-variants.Found n k) (NumberAnswers.the-variants.Found m l) e = λ i. NumberAnswers.the-variants.Found (value 0 (e i)) (value 1 (e i))
-number-one (NumberAnswers.the-variants.Found n k) (NumberAnswers.the-variants.Refused t) e = absurd (refusal-some t (sym (ap (λ f. f .refusal) e)))
-number-one (NumberAnswers.the-variants.Refused r) (NumberAnswers.the-variants.Found m l) e = absurd (refusal-some r (ap (λ f. f .refusal) e))
-number-one (NumberAnswers.the-variants.Refused r) (NumberAnswers.the-variants.Refused t) e = ap NumberAnswers.the-variants.Refused (refusal-one r t (ap (λ f. f .refusal) e))
+square-told : (r : SquareAnswers.SquareAnswer) → square-from (square-figures r) ≡ r
+unfolding square-from
+square-told (SquareAnswers.the-variants.Found x y k) = refl
+square-told (SquareAnswers.the-variants.Refused r) = rw (refusal-not-0 r) (ap SquareAnswers.the-variants.Refused (named-back r))
 
-pub finish-one : (r s : FinishAnswers.FinishAnswer) → finish-figures r ≡ finish-figures s → r ≡ s
-finish-one (FinishAnswers.the-variants.Found x y) (FinishAnswers.the-variants.Found u v) e = λ i. FinishAnswers.the-variants.Found (value 0 (e i)) (value 1 (e i))
-finish-one (FinishAnswers.the-variants.Found x y) (FinishAnswers.the-variants.Refused t) e = absurd (refusal-some t (sym (ap (λ f. f .refusal) e)))
-finish-one (FinishAnswers.the-variants.Refused r) (FinishAnswers.the-variants.Found u v) e = absurd (refusal-some r (ap (λ f. f .refusal) e))
-finish-one (FinishAnswers.the-variants.Refused r) (FinishAnswers.the-variants.Refused t) e = ap FinishAnswers.the-variants.Refused (refusal-one r t (ap (λ f. f .refusal) e))
+pub square-one : (r s : SquareAnswers.SquareAnswer) {f : Figures} → square-figures r ≡ f → square-figures s ≡ f → r ≡ s
+square-one = by-figures square-figures square-from square-told
+
+number-from : Figures → NumberAnswers.NumberAnswer
+number-from f = cond (eqb (f .refusal) 0) (NumberAnswers.the-variants.Found (value 0 f) (value 1 f)) (NumberAnswers.the-variants.Refused (named (f .refusal)))
+
+number-told : (r : NumberAnswers.NumberAnswer) → number-from (number-figures r) ≡ r
+unfolding number-from
+number-told (NumberAnswers.the-variants.Found n k) = refl
+number-told (NumberAnswers.the-variants.Refused r) = rw (refusal-not-0 r) (ap NumberAnswers.the-variants.Refused (named-back r))
+
+pub number-one : (r s : NumberAnswers.NumberAnswer) {f : Figures} → number-figures r ≡ f → number-figures s ≡ f → r ≡ s
+number-one = by-figures number-figures number-from number-told
+
+finish-from : Figures → FinishAnswers.FinishAnswer
+finish-from f = cond (eqb (f .refusal) 0) (FinishAnswers.the-variants.Found (value 0 f) (value 1 f)) (FinishAnswers.the-variants.Refused (named (f .refusal)))
+
+finish-told : (r : FinishAnswers.FinishAnswer) → finish-from (finish-figures r) ≡ r
+unfolding finish-from
+finish-told (FinishAnswers.the-variants.Found x y) = refl
+finish-told (FinishAnswers.the-variants.Refused r) = rw (refusal-not-0 r) (ap FinishAnswers.the-variants.Refused (named-back r))
+
+pub finish-one : (r s : FinishAnswers.FinishAnswer) {f : Figures} → finish-figures r ≡ f → finish-figures s ≡ f → r ≡ s
+finish-one = by-figures finish-figures finish-from finish-told
 
 -- The wrong programs that the promises turn away, each where it goes wrong first.
 two-squares : accepted 2 1 ≡ true

@@ -7,6 +7,7 @@ use Prim.Native.Nat.{ℕ, _+_, _≤_}
 use native.Mathlib.Omega.{arith}
 use lib.ListN.{getD, replicate}
 use Rattle.terms.proofs.Laws.{bit}
+use Rattle.terms.proofs.Ones.{one-equation}
 use Rattle.lines.specs.Lines.{fields, all-digits, value-on, is-number, numeral, same-bytes, shaped, request}
 use Rattle.clerk.specs.declared.Clerk.the-variants.{NoArea}
 use Rattle.clerk.specs.Clerk.{Said, after, reply}
@@ -17,23 +18,13 @@ use Rattle.desk.specs.declared.Desk.{Desk}
 use Rattle.desk.specs.Desk.{lines-of, answers, output}
 use Rattle.desk.specs.Steps.{at-first, stopped, prints-last-any, Result, Feeds}
 
--- Two results of feeding that meet the promise are one; of `finish`, `writes-one` says it.
-module _ {f : Result} {from : ℕ} {out : List ℕ} {at : ℕ} {d d′ : Desk} {kept kept′ : List ℕ} {next next′ : ℕ} {written written′ : List ℕ} {end end′ : ℕ}
-    (one : Feeds f from out at d kept next written end) (other : Feeds f from out at d′ kept′ next′ written′ end′) where
-  pub desk-one : d ≡ d′
-  desk-one = one .desk-is ∙ sym (other .desk-is)
-
-  pub kept-one : kept ≡ kept′
-  kept-one = one .kept-is ∙ sym (other .kept-is)
-
-  pub next-one : next ≡ next′
-  next-one = one .next-is ∙ sym (other .next-is)
-
-  pub written-one : written ≡ written′
-  written-one = writes-one (one .written-is) (other .written-is) .0
-
-  pub end-one : end ≡ end′
-  end-one = writes-one (one .written-is) (other .written-is) .1
+-- Two results of `feed` that meet its promise are one: desk, line kept, place in the piece, output and place in it. Of `finish`, `writes-one` says it.
+pub feed-one : {f : Result} {from : ℕ} {out : List ℕ} {at : ℕ} {d d′ : Desk} {kept kept′ : List ℕ} {next next′ : ℕ} {written written′ : List ℕ} {end end′ : ℕ}
+    → Feeds f from out at d kept next written end → Feeds f from out at d′ kept′ next′ written′ end′
+    → (d ≡ d′) × (kept ≡ kept′) × (next ≡ next′) × (written ≡ written′) × (end ≡ end′)
+feed-one one other =
+    let text = writes-one (one .written-is) (other .written-is) in
+    (one-equation (one .desk-is) (other .desk-is), one-equation (one .kept-is) (other .kept-is), one-equation (one .next-is) (other .next-is), text .0, text .1)
 
 -- Turned away: a reader that answers its first line and gives every other line the same answer. For an empty line and then N 1 with no area the answers
 -- are 6 and 7.

@@ -1,7 +1,7 @@
 -- What the shared functions of src/ need: the even half as computed, steps that stay coordinates in a block that lies inside, and each part of a
 -- placed block and of a spot, by the two bits.
 use mathlib.Core.Bool.{Bool, true, false, not, cond}
-use mathlib.Core.Path.{_≡_, refl, ap, ap₂, subst⁻¹, _∙_}
+use mathlib.Core.Path.{_≡_, refl, sym, ap, ap₂, subst⁻¹, _∙_}
 use Prim.Native.Nat.{ℕ, _+_, _-_, _*_, _/_, _%_, _≤_, _<_}
 use native.Mathlib.Nat.{add-zero, sub-zero, mul-le-mul}
 use native.Mathlib.Omega.{arith}
@@ -12,7 +12,7 @@ use Rattle.division.specs.declared.Spot.{Spot}
 use Rattle.division.specs.Division.{Square, square, Direction, +x, +y, -x, -y, Block, even-half, First, Second, A, B, C, part, moved, against}
 use Rattle.division.specs.Division.Inside.{Room, Inside}
 use Rattle.division.specs.Division.Rules.{halves}
-use Rattle.division.specs.Forms.{direction, block, stepped-to, Steps, entered}
+use Rattle.division.specs.Forms.{direction, block, block-at, stepped-to, Steps, entered}
 use Rattle.division.proofs.Cuts.{u-areas}
 
 -- the even half of a small length, and of a large one
@@ -200,3 +200,42 @@ sums-fit before a b e two is room =
     let half = halves b two in
     let all = u-sum a b e two is in
     record { half = omega arith; in-a = omega arith; in-b = omega arith; to-b = omega arith; to-c = omega arith }
+
+-- Two placed blocks that stand for one block are one: which axis is the run's, and which way it goes, can be told from its direction. So the contracts of
+-- the parts leave no choice.
+along-y : Direction → Bool
+along-y +x = false
+along-y +y = true
+along-y -x = false
+along-y -y = true
+
+backwards : Direction → Bool
+backwards +x = false
+backwards +y = false
+backwards -x = true
+backwards -y = true
+
+placed-from : Block → Placed
+placed-from k =
+    record {
+      along = cond (along-y (k .run)) (k .start .y) (k .start .x);
+      across = cond (along-y (k .run)) (k .start .x) (k .start .y);
+      turned = along-y (k .run);
+      back = backwards (k .run);
+      a = k .a;
+      b = k .b;
+    }
+
+placed-by : (along across : ℕ) (turned back : Bool) (a b : ℕ)
+    → placed-from (block-at along across turned back a b) ≡ record { along = along; across = across; turned = turned; back = back; a = a; b = b }
+unfolding placed-from along-y backwards
+placed-by along across false false a b = refl
+placed-by along across false true a b = refl
+placed-by along across true false a b = refl
+placed-by along across true true a b = refl
+
+pub placed-one : (j k : Placed) {q : Block} → block j ≡ q → block k ≡ q → j ≡ k
+placed-one j k p q =
+    sym (placed-by (j .along) (j .across) (j .turned) (j .back) (j .a) (j .b))
+    ∙ ap placed-from (p ∙ sym q)
+    ∙ placed-by (k .along) (k .across) (k .turned) (k .back) (k .a) (k .b)

@@ -1,5 +1,6 @@
--- What the promises across the boundary come to: filled tables hold what the lookups say, and the results of a call are the only ones; turned away, for
--- every call by one law each, are one that leaves its slice as it is, one that finds every slice too short, and a fill that leaves its table as it is.
+-- What the promises across the boundary come to: filled tables hold what the lookups say; turned away, for every call by one law each, are one that leaves
+-- its slice as it is, one that finds every slice too short, and a fill that leaves its table as it is. What is returned and what is left in each slice are
+-- equations with definitions, so that two results are one by `two-equations` and `three-equations` of terms.
 use mathlib.Core.Bool.{Bool, true}
 use mathlib.Core.List.{List, [], _∷_, _++_}
 use mathlib.Core.Path.{_≡_, refl, sym, ap, ap₂, _∙_}
@@ -29,10 +30,6 @@ by-square-holds w h x y n k e =
     let was = number-asked w h n (x ∷ y ∷ k ∷ []) back in
     let all = limits w h (was .0) in
     ap (λ p. getD (by-square w h) p 0) (sym (by-number-holds w h n x y k back)) ∙ kinds-inverse w h (all .w-least) (all .h-least) n (was .1) .0
-
--- What is returned and what is left in the slice are equations, so that two results that meet a promise are one.
-pub result-one : {r s r′ : ℕ} {l m l′ : List ℕ} → (r ≡ r′) × (l ≡ l′) → (s ≡ r′) × (m ≡ l′) → (r ≡ s) × (l ≡ m)
-result-one p q = (p .0 ∙ sym (q .0), p .1 ∙ sym (q .1))
 
 module _ (n : ℕ) (f : Figures) where
   -- a slice of n places that holds one value

@@ -2,12 +2,13 @@
 -- test of the length alone, which AREB passes, and one of the first four bytes alone, which AREAX passes.
 use mathlib.Core.Bool.{cond}
 use mathlib.Core.List.{List, [], _∷_}
-use mathlib.Core.Path.{_≡_, refl, sym, ap, _∙_}
+use mathlib.Core.Path.{_≡_, refl, ap}
 use Prim.Native.Nat.{ℕ}
 use native.Mathlib.Omega.{arith}
 use lib.Dec.{eqb}
 use lib.ListN.{length, getD, take}
 use Rattle.terms.proofs.Laws.{named, named-back, bit}
+use Rattle.terms.proofs.Ones.{by-figures}
 use Rattle.lines.specs.declared.Request.{Request}
 use Rattle.lines.specs.declared.Request.the-variants.{SetArea, AskNumber, AskSquare, Refused}
 use Rattle.lines.specs.Lines.{AREA, same-bytes, Asked, asked}
@@ -27,8 +28,8 @@ told-back (AskNumber i) = refl
 told-back (AskSquare x y) = refl
 told-back (Refused r) = ap Refused (named-back r)
 
-pub request-one : (p q : Request) → asked p ≡ asked q → p ≡ q
-request-one p q e = sym (told-back p) ∙ ap of-figures e ∙ told-back q
+pub request-one : (p q : Request) {a : Asked} → asked p ≡ a → asked q ≡ a → p ≡ q
+request-one = by-figures asked of-figures told-back
 
 pub length-alone : ((s : List ℕ) → eqb (length s) 4 ≡ same-bytes s AREA) → ⊥
 unfolding same-bytes

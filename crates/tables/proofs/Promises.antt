@@ -2,20 +2,23 @@
 -- exactly of the table that a fill leaves, the count meets demand 3, an answer is the only one, and the wrong programs that are turned away.
 use mathlib.Core.Bool.{Bool, true, false, cond}
 use mathlib.Core.List.{List, [], _∷_}
-use mathlib.Core.Path.{_≡_, refl, sym, ap, ap₂, _∙_}
-use Prim.Native.Nat.{ℕ, suc, _+_, _-_, _*_, _/_, _%_, _≤_, _<_}
+use mathlib.Core.Path.{_≡_, refl, sym, ap, ap₂, subst⁻¹, _∙_}
+use Prim.Native.Nat.{ℕ, zero, suc, _+_, _-_, _*_, _/_, _%_, _≤_, _<_}
+use native.Mathlib.Nat.{zero-add}
 use native.Mathlib.Omega.{arith}
-use borrow.Author.Tests.{eqb-true, eqb-false}
+use borrow.Author.Tests.{eqb-true, eqb-false, ne-eqb}
 use lib.Dec.{eqb, lit≤, lit<}
 use lib.ListN.{length, getD}
 use Rattle.division.specs.Division.Small.{blocks-two}
-use Rattle.terms.specs.Terms.{accepted, answered}
-use Rattle.terms.proofs.Laws.{limits, refusal-one, refusal-some, value}
+use Rattle.terms.specs.declared.Refusal.the-variants.{TableLength}
+use Rattle.terms.specs.Terms.{accepted, Figures, answered, refused}
+use Rattle.terms.proofs.Laws.{limits, named, named-back, refusal-not-0, value}
+use Rattle.terms.proofs.Ones.{one-equation, by-figures}
 use Rattle.division.specs.Division.{square, whole, square-of, number-of, blocks, +x, +y}
 use Rattle.division.proofs.Blocks.{whole-inside, few-blocks}
 use Rattle.tables.specs.declared.FillAnswer as FillAnswers
 use Rattle.tables.specs.declared.CheckAnswer as CheckAnswers
-use Rattle.tables.specs.Tables.{by-number, by-square, due-by, judged, unless-refused, fill, check, fill-figures, check-figures}
+use Rattle.tables.specs.Tables.{by-number, by-square, due-by, judged, on-table, unless-refused, fill, check, fill-figures, check-figures}
 use Rattle.tables.proofs.Whole.{area-refused, length-refused, taken, given}
 use Rattle.tables.proofs.Judged.{judged-right}
 use Rattle.tables.proofs.Listed.{place-holds, values-below, due-there, looked-for, looked-below, looked-at, due-length}
@@ -72,39 +75,127 @@ module _ (w h : ℕ) (yes : accepted w h ≡ true) (kind : Bool) (t : List ℕ) 
   pub filled-then-right : t ≡ due → check w h due t ≡ answered (0 ∷ 0 ∷ 0 ∷ [])
   filled-then-right e = judged-is ∙ ap answered (judged-right 0 due t (size ∙ sym long) (λ i l. ap (λ zs. getD zs i 0) e))
 
--- Demand 3: a fill's count is the division's own, by its promise, and at most 2 · squares - 1.
-few-by : (w h : ℕ) (t : List ℕ) (n : ℕ) (a b : Bool) → accepted w h ≡ a → eqb (length t) (w * h) ≡ b → fill w h t ≡ answered (n ∷ []) → n ≤ 2 * (w * h) - 1
-unfolding fill whole
-few-by w h t n true true p q e =
-    let all = limits w h p in
-    let is = ap (value 0) (sym e ∙ taken w h t 1 (answered (length (blocks (whole w h)) ∷ [])) p (eqb-true (length t) (w * h) q)) in
-    let few = few-blocks (whole w h) (whole-inside w h (all .w-least) (all .h-least) .sized) in
-    omega arith
-few-by w h t n true false p q e =
-    absurd (omega (arith, ap (λ f. f .refusal) (length-refused w h t 1 (answered (length (blocks (whole w h)) ∷ [])) p (eqb-false (length t) (w * h) q) ∙ e)))
-few-by w h t n false b p q e =
-    absurd (omega (arith, ap (λ f. f .refusal) (area-refused w h t 1 (answered (length (blocks (whole w h)) ∷ [])) p ∙ e)))
+-- "the first wrong place and the value due there": the table has that place, what it holds is not what is due there, and every place before it is right.
+pub record First (due t : List ℕ) (place value : ℕ) : Type 0 where
+  pub there : place < length due
+  pub value-due : getD due place 0 ≡ value
+  pub wrong : getD t place 0 ≡ value → ⊥
+  pub before : (i : ℕ) → i < place → getD t i 0 ≡ getD due i 0
 
-pub few-reported : (w h : ℕ) (t : List ℕ) (n : ℕ) → fill w h t ≡ answered (n ∷ []) → n ≤ 2 * (w * h) - 1
-few-reported w h t n e = few-by w h t n (accepted w h) (eqb (length t) (w * h)) refl refl e
+-- the verdict of a table's rest from place p on, and where in the rest its wrong place lies
+abbrev Met : (p : ℕ) (ds vs : List ℕ) (place value : ℕ) → Type 0
+Met p ds vs place value = (l : ℕ) × (place ≡ p + l) × First ds vs l value
 
--- Two answers that meet a promise are one.
-pub fill-one : (r s : FillAnswers.FillAnswer) → fill-figures r ≡ fill-figures s → r ≡ s
-fill-one (FillAnswers.the-variants.Filled n) (FillAnswers.the-variants.Filled m) e = λ i. FillAnswers.the-variants.Filled (value 0 (e i))
-fill-one (FillAnswers.the-variants.Filled n) (FillAnswers.the-variants.Refused t) e = absurd (refusal-some t (sym (ap (λ f. f .refusal) e)))
-fill-one (FillAnswers.the-variants.Refused r) (FillAnswers.the-variants.Filled m) e = absurd (refusal-some r (ap (λ f. f .refusal) e))
-fill-one (FillAnswers.the-variants.Refused r) (FillAnswers.the-variants.Refused t) e = ap FillAnswers.the-variants.Refused (refusal-one r t (ap (λ f. f .refusal) e))
+met-later : (p d v : ℕ) (ds vs : List ℕ) (place value : ℕ) → v ≡ d → Met (suc p) ds vs place value → Met p (d ∷ ds) (v ∷ vs) place value
+met-later p d v ds vs place value e m =
+    let l = m .0 in
+    let f = m .2 in
+    let at = m .1 in
+    let there = f .there in (
+      suc l,
+      omega arith,
+      record { there = omega arith; value-due = f .value-due; wrong = f .wrong; before = before f },
+    )
+  where
+    before : {l : ℕ} → First ds vs l value → (i : ℕ) → i < suc l → getD (v ∷ vs) i 0 ≡ getD (d ∷ ds) i 0
+    before f zero b = e
+    before f (suc i) b = f .before i (omega arith)
 
-pub check-one : (r s : CheckAnswers.CheckAnswer) → check-figures r ≡ check-figures s → r ≡ s
-check-one CheckAnswers.the-variants.Right CheckAnswers.the-variants.Right e = refl
-check-one CheckAnswers.the-variants.Right (CheckAnswers.the-variants.Wrong p d) e = absurd (omega (arith, ap (value 0) e))
-check-one CheckAnswers.the-variants.Right (CheckAnswers.the-variants.Refused t) e = absurd (refusal-some t (sym (ap (λ f. f .refusal) e)))
-check-one (CheckAnswers.the-variants.Wrong p d) CheckAnswers.the-variants.Right e = absurd (omega (arith, ap (value 0) e))
-check-one (CheckAnswers.the-variants.Wrong p d) (CheckAnswers.the-variants.Wrong q c) e = λ i. CheckAnswers.the-variants.Wrong (value 1 (e i)) (value 2 (e i))
-check-one (CheckAnswers.the-variants.Wrong p d) (CheckAnswers.the-variants.Refused t) e = absurd (refusal-some t (sym (ap (λ f. f .refusal) e)))
-check-one (CheckAnswers.the-variants.Refused r) CheckAnswers.the-variants.Right e = absurd (refusal-some r (ap (λ f. f .refusal) e))
-check-one (CheckAnswers.the-variants.Refused r) (CheckAnswers.the-variants.Wrong q c) e = absurd (refusal-some r (ap (λ f. f .refusal) e))
-check-one (CheckAnswers.the-variants.Refused r) (CheckAnswers.the-variants.Refused t) e = ap CheckAnswers.the-variants.Refused (refusal-one r t (ap (λ f. f .refusal) e))
+judged-met : (p : ℕ) (ds vs : List ℕ) (place value : ℕ) → length vs ≡ length ds → judged p ds vs ≡ 1 ∷ place ∷ value ∷ [] → Met p ds vs place value
+unfolding judged
+judged-met p [] vs place value size e = absurd (omega (arith, ap (λ zs. getD zs 0 0) e))
+judged-met p (d ∷ ds) [] place value size e = absurd (omega arith)
+judged-met p (d ∷ ds) (v ∷ vs) place value size e = by (eqb v d) refl e (judged-met (suc p) ds vs place value (omega arith))
+  where
+    by : (same : Bool) → eqb v d ≡ same → cond same (judged (suc p) ds vs) (1 ∷ p ∷ d ∷ []) ≡ 1 ∷ place ∷ value ∷ []
+        → (judged (suc p) ds vs ≡ 1 ∷ place ∷ value ∷ [] → Met (suc p) ds vs place value) → Met p (d ∷ ds) (v ∷ vs) place value
+    by true is told later = met-later p d v ds vs place value (eqb-true v d is) (later told)
+    by false is told later =
+        let at : p ≡ place = ap (λ zs. getD zs 1 0) told in
+        let due : d ≡ value = ap (λ zs. getD zs 2 0) told in
+        let other = eqb-false v d is in (
+          0,
+          omega arith,
+          record { there = omega arith; value-due = due; wrong = λ z. other (z ∙ sym due); before = λ i b. absurd (omega arith) },
+        )
+
+-- an answered fill, or check, was asked for a table of exactly w·h places of an accepted area
+asked-by : (w h : ℕ) (t : List ℕ) (n : ℕ) (answer : Figures) (a b : Bool) → accepted w h ≡ a → eqb (length t) (w * h) ≡ b → on-table w h t n answer .refusal ≡ 0
+    → (accepted w h ≡ true) × (length t ≡ w * h)
+asked-by w h t n answer true true p q e = (p, eqb-true (length t) (w * h) q)
+asked-by w h t n answer true false p q e =
+    absurd (omega (arith, ap (λ f. f .refusal) (length-refused w h t n answer p (eqb-false (length t) (w * h) q))))
+asked-by w h t n answer false b p q e = absurd (omega (arith, ap (λ f. f .refusal) (area-refused w h t n answer p)))
+
+module _ (w h : ℕ) (t : List ℕ) where
+  -- "A table's length must be exactly w·h": of an accepted area any other is refusal 4, in fills and checks.
+  pub other-length-refused : (ds : List ℕ) → accepted w h ≡ true → (length t ≡ w * h → ⊥)
+      → (fill w h t ≡ refused TableLength 1) × (check w h ds t ≡ refused TableLength 3)
+  unfolding fill check
+  other-length-refused ds ok other =
+      (sym (length-refused w h t 1 (answered (length (blocks (whole w h)) ∷ [])) ok other), sym (length-refused w h t 3 (answered (judged 0 ds t)) ok other))
+
+  pub fill-asked : fill w h t .refusal ≡ 0 → (accepted w h ≡ true) × (length t ≡ w * h)
+  unfolding fill
+  fill-asked = asked-by w h t 1 (answered (length (blocks (whole w h)) ∷ [])) (accepted w h) (eqb (length t) (w * h)) refl refl
+
+  -- Demand 3: a fill reports all blocks of the division, at most 2 · squares - 1.
+  pub all-blocks-reported : (n : ℕ) → fill w h t ≡ answered (n ∷ []) → n ≡ length (blocks (whole w h))
+  unfolding fill
+  all-blocks-reported n e =
+      let was = fill-asked (ap (λ f. f .refusal) e) in
+      ap (value 0) (sym e ∙ taken w h t 1 (answered (length (blocks (whole w h)) ∷ [])) (was .0) (was .1))
+
+  pub few-reported : (n : ℕ) → fill w h t ≡ answered (n ∷ []) → n ≤ 2 * (w * h) - 1
+  unfolding whole
+  few-reported n e =
+      let all = limits w h (fill-asked (ap (λ f. f .refusal) e) .0) in
+      let is = all-blocks-reported n e in
+      let few = few-blocks (whole w h) (whole-inside w h (all .w-least) (all .h-least) .sized) in
+      omega arith
+
+  -- Demand 1: a refused table is unaltered.
+  pub refused-unaltered : (ds : List ℕ) → (fill w h t .refusal ≡ 0 → ⊥) → unless-refused (fill w h t) ds t ≡ t
+  unfolding unless-refused
+  refused-unaltered ds no-answer = rw (ne-eqb (fill w h t .refusal) 0 no-answer)
+
+module _ (w h : ℕ) (kind : Bool) (t : List ℕ) where
+  pub first-wrong-place : (place value : ℕ) → check w h (due-by kind w h) t ≡ answered (1 ∷ place ∷ value ∷ []) → First (due-by kind w h) t place value
+  unfolding check
+  first-wrong-place place value e =
+      let was = asked-by w h t 3 (answered (judged 0 (due-by kind w h) t)) (accepted w h) (eqb (length t) (w * h)) refl refl (ap (λ f. f .refusal) e) in
+      let all = limits w h (was .0) in
+      let size = was .1 ∙ sym (due-length w h (all .w-least) (all .h-least) kind) in
+      let told = ap (λ f. f .values) (sym (taken w h t 3 (answered (judged 0 (due-by kind w h) t)) (was .0) (was .1)) ∙ e) in
+      let met = judged-met 0 (due-by kind w h) t place value size told in
+      subst⁻¹ (λ (p : ℕ). First (due-by kind w h) t p value) (met .1 ∙ zero-add (met .0)) (met .2)
+
+-- Two answers that meet a promise are one, and so are the tables that two fills leave.
+fill-from : Figures → FillAnswers.FillAnswer
+fill-from f = cond (eqb (f .refusal) 0) (FillAnswers.the-variants.Filled (value 0 f)) (FillAnswers.the-variants.Refused (named (f .refusal)))
+
+fill-told : (r : FillAnswers.FillAnswer) → fill-from (fill-figures r) ≡ r
+unfolding fill-from
+fill-told (FillAnswers.the-variants.Filled n) = refl
+fill-told (FillAnswers.the-variants.Refused r) = rw (refusal-not-0 r) (ap FillAnswers.the-variants.Refused (named-back r))
+
+pub fill-one : (r s : FillAnswers.FillAnswer) {f : Figures} {t u due : List ℕ} → (fill-figures r ≡ f) × (t ≡ due) → (fill-figures s ≡ f) × (u ≡ due)
+    → (r ≡ s) × (t ≡ u)
+fill-one r s p q = (by-figures fill-figures fill-from fill-told r s (p .0) (q .0), one-equation (p .1) (q .1))
+
+check-from : Figures → CheckAnswers.CheckAnswer
+check-from f =
+    cond (eqb (f .refusal) 0) (cond (eqb (value 0 f) 0) CheckAnswers.the-variants.Right (CheckAnswers.the-variants.Wrong (value 1 f) (value 2 f)))
+    (CheckAnswers.the-variants.Refused (named (f .refusal)))
+
+check-told : (r : CheckAnswers.CheckAnswer) → check-from (check-figures r) ≡ r
+unfolding check-from
+check-told CheckAnswers.the-variants.Right = refl
+check-told (CheckAnswers.the-variants.Wrong place due) = refl
+check-told (CheckAnswers.the-variants.Refused r) = rw (refusal-not-0 r) (ap CheckAnswers.the-variants.Refused (named-back r))
+
+pub check-one : (r s : CheckAnswers.CheckAnswer) {f : Figures} → check-figures r ≡ f → check-figures s ≡ f → r ≡ s
+check-one = by-figures check-figures check-from check-told
 
 -- The wrong programs that the promises turn away. No table of one square of either kind holds 7.
 one-square : accepted 1 1 ≡ true

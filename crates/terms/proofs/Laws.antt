@@ -3,7 +3,7 @@ use mathlib.Core.Bool.{Bool, true, false, cond, and-eq-true-iff}
 use mathlib.Core.Path.{_≡_, refl, sym, ap, _∙_}
 use Prim.Native.Nat.{ℕ, _*_, _≤_, _<_}
 use native.Mathlib.Nat.{mul-le-mul}
-use borrow.Author.Tests.{leb-true}
+use borrow.Author.Tests.{leb-true, ne-eqb}
 use lib.Dec.{leb, eqb}
 use lib.ListN.{getD}
 use native.Mathlib.Omega.{arith}
@@ -70,6 +70,9 @@ refusal-some WrongShape e = omega arith
 refusal-some NoArea e = omega arith
 refusal-some LongLine e = omega arith
 refusal-some TooDeep e = omega arith
+
+pub refusal-not-0 : (r : Refusal) → eqb (refusal-number r) 0 ≡ false
+refusal-not-0 r = ne-eqb (refusal-number r) 0 (refusal-some r)
 
 -- For telling two results apart: a test as a number, and the i-th value of some figures.
 abbrev pub bit : Bool → ℕ

@@ -1,6 +1,6 @@
 -- `clerk::Clerk::handle` meets its contract: reply and clerk are composed from the request.
 use borrow.Author.Needs.{needs}
-use mathlib.Core.Path.{ap, _∙_}
+use mathlib.Core.Path.{refl, ap, _∙_}
 use Rattle.lines.specs.Lines.{request}
 use Rattle.lines.proofs.Promises.{request-one}
 use Rattle.clerk.specs.Clerk.{due, begins-area, left-by, after, reply}
@@ -21,7 +21,7 @@ unfolding after reply
 returns c =
     let start = c .before .before .before .before .args in
     let line = start .line .now in
-    let asked = request-one (c .before .before .request-of .result) (request line) (c .before .before .request-of .ensures) in
+    let asked = request-one (c .before .before .request-of .result) (request line) (c .before .before .request-of .ensures) refl in
     (c .clerk-after .ensures ∙ ap (left-by (start .self) (begins-area line)) asked, c .before .reply-to .ensures ∙ ap (due (start .self)) asked)
 
 pub handle-spec : {M : Type 1} → statement M
