@@ -9,6 +9,7 @@ use lib.ListN.{getD}
 use Rattle.division.specs.declared.Choice.{Choice}
 use Rattle.division.specs.declared.Choice.the-variants.{StraightRun, StraightSide, LongCut, UCut}
 pub mod Worked
+pub mod Telling
 pub mod Inside
 pub mod Rules
 pub mod Small

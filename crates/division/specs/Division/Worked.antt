@@ -19,21 +19,25 @@ pub data Case : Type 0 where
   divided : (w h n : ℕ) → Case
 
 is : (w h i x y : ℕ) → Bool
+unfolding square-of number-of place-in same curve down parts parts-of part choice even-half whole moved against row curve-by mathlib.Core.List.flatten
 is w h i x y = same (square-of (whole w h) i) (square x y) && eqb (number-of (whole w h) (square x y)) i
 
 sames : List Square → List Square → Bool
+unfolding same
 sames [] [] = true
 sames [] (q ∷ qs) = false
 sames (p ∷ ps) [] = false
 sames (p ∷ ps) (q ∷ qs) = same p q && sames ps qs
 
 right : Case → Bool
+unfolding is sames blocks-holding blocks count holds within
 right (number-is w h i x y) = is w h i x y
 right (number-in w h i x y n) = is w h i x y && eqb (blocks-holding (whole w h) (square x y)) n
 right (traversal w h squares) = sames (curve (whole w h)) squares
 right (divided w h n) = eqb (length (blocks (whole w h))) n
 
-pub all-right : List Case → Bool
+unfoldable pub all-right : List Case → Bool
+unfolding right
 all-right [] = true
 all-right (c ∷ cs) = right c && all-right cs
 
@@ -57,7 +61,7 @@ worked =
     ∷ []
 
 pub worked-right : T (all-right worked)
-unfolding worked all-right right is sames same square-of number-of blocks-holding place-in curve blocks down parts parts-of part choice even-half whole moved against row curve-by within holds count mathlib.Core.List.flatten
+unfolding worked all-right
 worked-right = tt
 
 -- Number 8 of the 3 by 4 area, as document 01's example of order lines has it, and how many blocks hold it.
