@@ -1,5 +1,6 @@
 // trace: every name in the tables of docs/TRACE.md exists: a file, a crate, a function or type of the code or the tests, a definition or theorem, or a
-// must-fail edit. A name that is followed by a file in brackets, alone or as the last of several, stands in that file.
+// must-fail edit. A name that is followed by a file in brackets, alone or as the last of several, stands in that file. And every public function of the
+// library stands in the page's table "One answer".
 use std::fs;
 use std::path::{Path, PathBuf};
 
@@ -44,6 +45,16 @@ fn exists(name: &str, sources: &[PathBuf]) -> bool {
         || sources.iter().any(|path| path.file_name().is_some_and(|f| f.to_str() == Some(&edit)) || declares(path, name))
 }
 
+// The names of the public functions of a source of Rattle.
+fn public_functions(path: &Path) -> Vec<String> {
+    let text = fs::read_to_string(path).expect("the source can be read");
+    let name = |line: &str| {
+        let rest = ["pub fn ", "pub extern \"C\" fn "].iter().find_map(|kind| line.trim_start().strip_prefix(kind))?;
+        Some(rest.split('(').next()?.to_string())
+    };
+    text.lines().filter_map(name).collect()
+}
+
 fn main() {
     let mut sources = Vec::new();
     for folder in ["crates", "tests"] {
@@ -81,7 +92,12 @@ fn main() {
             }
         }
     }
-    assert!(count > 0, "docs/TRACE.md names nothing");
-    assert!(missing == 0, "{missing} of {count} names are wrong");
-    println!("trace: {count} names, and all of them exist where the page says");
+    let one_answer = page.split("\n## One answer\n").nth(1).unwrap_or("");
+    let functions: Vec<String> = sources.iter().filter(|path| path.extension().is_some_and(|e| e == "rt")).flat_map(|path| public_functions(path)).collect();
+    for function in functions.iter().filter(|function| !one_answer.contains(&format!("`{function}`"))) {
+        miss(format!("{function} is not under \"One answer\""));
+    }
+    assert!(count > 0 && !functions.is_empty(), "docs/TRACE.md names nothing");
+    assert!(missing == 0, "{missing} names are wrong or missing, of {count}");
+    println!("trace: {count} names, and all of them exist where the page says; {} public functions with one answer each", functions.len());
 }

@@ -1,13 +1,13 @@
 -- Document 01's sentences on the area in force, for every clerk and every line: which lines set it, which clear it, and that no other line alters it.
--- A line begins with the word of what it asks, so that no N or S line begins with AREA, and every line that asks for an area does.
+-- A line says what it asks, so that no N or S line begins with AREA, and every line that asks for an area does.
 use mathlib.Core.Bool.{Bool, true, false, cond}
 use mathlib.Core.List.{List, [], _∷_, _++_}
 use mathlib.Core.Path.{_≡_, refl, sym, ap, _∙_}
 use Prim.Native.Nat.{ℕ, _*_, _≤_}
 use native.Mathlib.Omega.{arith}
-use lib.Dec.{eqb, lit≤}
+use lib.Dec.{eqb, lit<, lit≤}
 use lib.ListN.{getD, take}
-use lib.Seq.{take-take}
+use lib.Seq.{getD-take}
 use Rattle.terms.specs.declared.Area.{Area}
 use Rattle.terms.specs.Terms.{accepted, Figures}
 use Rattle.terms.proofs.Laws.{limits}
@@ -15,9 +15,9 @@ use Rattle.curve.specs.Lookups.{number-to-square, square-to-number, finish-squa
 use Rattle.lines.specs.declared.Request.{Request}
 use Rattle.lines.specs.declared.Request as Requests
 use Rattle.lines.specs.declared.Request.the-variants.{SetArea, AskNumber, AskSquare}
-use Rattle.lines.specs.Lines.{AREA, same-bytes, request}
+use Rattle.lines.specs.Lines.{AREA, N, S, same-bytes, request}
 use Rattle.lines.proofs.Shapes.{same-itself, same-true}
-use Rattle.lines.proofs.Asking.{Begins, begins-so, with-two, area-spelt}
+use Rattle.lines.proofs.Asking.{with-one, with-two, Says, says-so, area-spelt}
 use Rattle.clerk.specs.declared.Clerk.{Clerk}
 use Rattle.clerk.specs.declared.Clerk.the-variants.{NoArea, InForce}
 use Rattle.clerk.specs.Clerk as spec
@@ -82,15 +82,14 @@ module _ (w h : ℕ) where
       by false p = absurd (n (rw p refl))
 
 -- no line begins with a letter other than A and with AREA
-other-letter : (line known : List ℕ) → (getD known 0 0 ≡ 65 → ⊥) → take 1 line ≡ known → take 4 line ≡ AREA → ⊥
-other-letter line known other begun area =
-    other (ap (λ s. getD s 0 0) (sym begun ∙ sym (take-take 1 4 line (lit≤ tt)) ∙ ap (take 1) area))
+other-letter : (line said : List ℕ) → (getD said 0 0 ≡ 65 → ⊥) → line ≡ said → take 4 line ≡ AREA → ⊥
+other-letter line said other is area = other (ap (λ s. getD s 0 0) (sym is) ∙ sym (getD-take 4 line 0 0 (lit< tt)) ∙ ap (λ s. getD s 0 0) area)
 
--- An accepted AREA line: it asks for an area that is accepted, and sets that.
+-- An accepted AREA line: it says AREA and two numbers, which are an area within the limit, and sets that.
 pub record Sets (clerk : Clerk) (line : List ℕ) : Type 0 where
   pub w : ℕ
   pub h : ℕ
-  pub asks : request line ≡ SetArea w h
+  pub says : line ≡ with-two AREA w h
   pub within : accepted w h ≡ true
   pub set : spec.after clerk line ≡ InForce (record { w = w; h = h })
 
@@ -106,41 +105,41 @@ module _ (clerk : Clerk) (line : List ℕ) where
       by true e = absurd (other (same-true (take 4 line) AREA e))
 
   -- "A refused line whose first four bytes are AREA leaves no area in force, for any reason of refusal."
-  refused-by : (q : Request) → Begins q line → take 4 line ≡ AREA → spec.due clerk q .word ≡ spec.Refused
+  refused-by : (q : Request) → Says q line → take 4 line ≡ AREA → spec.due clerk q .word ≡ spec.Refused
       → spec.left-by clerk (spec.begins-area line) q ≡ NoArea
   refused-by (SetArea w h) b area e = rw (refused-set w h e) refl
-  refused-by (AskNumber i) b area e = absurd (other-letter line (78 ∷ []) (λ z. omega arith) b area)
-  refused-by (AskSquare x y) b area e = absurd (other-letter line (83 ∷ []) (λ z. omega arith) b area)
+  refused-by (AskNumber i) b area e = absurd (other-letter line (with-one N i) (λ z. omega arith) b area)
+  refused-by (AskSquare x y) b area e = absurd (other-letter line (with-two S x y) (λ z. omega arith) b area)
   refused-by (Requests.the-variants.Refused r) b area e = rw (begins-is area) refl
 
   pub refused-leaves-none : take 4 line ≡ AREA → spec.reply clerk line .word ≡ spec.Refused → spec.after clerk line ≡ NoArea
   unfolding spec.reply spec.after
-  refused-leaves-none = refused-by (request line) (begins-so line)
+  refused-leaves-none = refused-by (request line) (says-so line)
 
   -- "No other line alters the area": a line that does not begin so leaves the clerk as it was.
-  other-by : (q : Request) → Begins q line → (take 4 line ≡ AREA → ⊥) → spec.left-by clerk (spec.begins-area line) q ≡ clerk
-  other-by (SetArea w h) b other = absurd (other b)
+  other-by : (q : Request) → Says q line → (take 4 line ≡ AREA → ⊥) → spec.left-by clerk (spec.begins-area line) q ≡ clerk
+  other-by (SetArea w h) b other = absurd (other (ap (take 4) b))
   other-by (AskNumber i) b other = refl
   other-by (AskSquare x y) b other = refl
   other-by (Requests.the-variants.Refused r) b other = rw (begins-not other) refl
 
   pub others-alter-nothing : (take 4 line ≡ AREA → ⊥) → spec.after clerk line ≡ clerk
   unfolding spec.after
-  others-alter-nothing = other-by (request line) (begins-so line)
+  others-alter-nothing = other-by (request line) (says-so line)
 
-  -- "An accepted AREA line sets the area for the lines below it": a line that begins so and is not refused sets exactly the area that it asks for.
-  accepted-by : (q : Request) → request line ≡ q → Begins q line → take 4 line ≡ AREA → (spec.due clerk q .word ≡ spec.Refused → ⊥) → Sets clerk line
+  -- "An accepted AREA line sets the area for the lines below it": a line that begins so and is not refused sets exactly the area that it says.
+  accepted-by : (q : Request) → request line ≡ q → Says q line → take 4 line ≡ AREA → (spec.due clerk q .word ≡ spec.Refused → ⊥) → Sets clerk line
   unfolding spec.after
   accepted-by (SetArea w h) is b area e =
       let ok = answered-set w h e in
-      record { w = w; h = h; asks = is; within = ok; set = ap (spec.left-by clerk (spec.begins-area line)) is ∙ rw ok refl }
-  accepted-by (AskNumber i) is b area e = absurd (other-letter line (78 ∷ []) (λ z. omega arith) b area)
-  accepted-by (AskSquare x y) is b area e = absurd (other-letter line (83 ∷ []) (λ z. omega arith) b area)
+      record { w = w; h = h; says = b; within = ok; set = ap (spec.left-by clerk (spec.begins-area line)) is ∙ rw ok refl }
+  accepted-by (AskNumber i) is b area e = absurd (other-letter line (with-one N i) (λ z. omega arith) b area)
+  accepted-by (AskSquare x y) is b area e = absurd (other-letter line (with-two S x y) (λ z. omega arith) b area)
   accepted-by (Requests.the-variants.Refused r) is b area e = absurd (e refl)
 
   pub accepted-sets : take 4 line ≡ AREA → (spec.reply clerk line .word ≡ spec.Refused → ⊥) → Sets clerk line
   unfolding spec.reply
-  accepted-sets = accepted-by (request line) refl (begins-so line)
+  accepted-sets = accepted-by (request line) refl (says-so line)
 
 -- So the line `AREA w h` of every area within the limit sets that area, whatever was in force.
 pub area-line-sets : (clerk : Clerk) (w h : ℕ) → accepted w h ≡ true → spec.after clerk (with-two AREA w h) ≡ InForce (record { w = w; h = h })

@@ -1,89 +1,111 @@
--- What a line asks, seen from its bytes. The first field of a line is a prefix of it, so that a line begins with the word of what it asks; and the line that
--- a word and numbers in decimal spell asks with that word for those numbers.
+-- What a line asks, seen from its bytes: the line that a word and numbers in decimal spell asks with that word for those numbers, and no other line does.
+-- The fields of a line with spaces between them are the line, and each number has one text.
 use mathlib.Core.Bool.{Bool, true, false, not, cond, _&&_, _||_, and-eq-true-iff}
 use mathlib.Core.List.{List, [], _∷_, _++_}
-use mathlib.Core.Path.{_≡_, refl, sym, ap, subst, subst⁻¹, _∙_}
+use mathlib.Core.Path.{_≡_, refl, sym, ap, ap₂, subst⁻¹, _∙_}
 use Prim.Native.Nat.{ℕ, _≤_}
 use native.Mathlib.Omega.{arith}
-use borrow.Author.Tests.{leb-true, le-leb, ne-eqb}
+use borrow.Author.Tests.{leb-true, le-leb, ne-eqb, eqb-true}
 use lib.Dec.{leb, eqb, lit≤}
-use lib.ListN.{length, length-append, take}
-use Rattle.terms.specs.declared.Refusal.{Refusal}
-use Rattle.terms.specs.declared.Refusal.the-variants.{NotANumber, WrongShape, LongLine}
+use lib.ListN.{length, length-append}
+use Rattle.terms.specs.declared.Refusal.the-variants.{WrongShape, LongLine}
 use Rattle.lines.specs.declared.Numeral.{Numeral}
 use Rattle.lines.specs.declared.Numeral.the-variants.{Value, NoNumber}
 use Rattle.lines.specs.declared.Request.{Request}
 use Rattle.lines.specs.declared.Request.the-variants.{SetArea, AskNumber, AskSquare, Refused}
-use Rattle.lines.specs.Lines.{onto, fields, is-digit, all-digits, numeral, AREA, N, S, same-bytes, is-empty, by-one, of-one, by-two, of-two, two-fields, three-fields, shaped, request}
+use Rattle.lines.specs.Lines.{onto, fields, is-digit, all-digits, numeral, AREA, N, S, same-bytes, is-empty, by-one, by-two, of-two, two-fields, three-fields, shaped, request}
 use Rattle.lines.specs.Decimal.{decimal}
 use Rattle.lines.specs.Reading.{word}
-use Rattle.lines.proofs.Decimals.{read-back, reads, ten-digits}
+use Rattle.lines.proofs.Decimals.{read-back, only-text, reads, ten-digits}
 use Rattle.lines.proofs.Shapes.{same-true}
-use Rattle.lines.proofs.Sequence.{rest, fields-are, word-take}
+use Rattle.lines.proofs.Sequence.{rest, fields-are}
 
--- what holds of every refusal and of all that a word asks holds of what it asks with one field, or two, behind it
-module _ (P : Request → Type 0) (refused : (r : Refusal) → P (Refused r)) where
-  one-asked : (asked : ℕ → Request) (a : List ℕ) → ((i : ℕ) → P (asked i)) → P (of-one asked a)
-  one-asked asked a holds = by (is-empty a) (numeral a)
-    where
-      by : (none : Bool) (n : Numeral) → P (cond none (Refused WrongShape) (by-one asked n))
-      by true n = refused WrongShape
-      by false (Value i) = holds i
-      by false NoNumber = refused NotANumber
+-- A word with one number, and with two, behind it: the lines `N i`, `AREA w h` and `S x y`, spelt.
+abbrev pub with-one : List ℕ → ℕ → List ℕ
+with-one known n = known ++ (32 ∷ decimal n)
 
-  two-asked : (asked : ℕ → ℕ → Request) (a b : List ℕ) → ((x y : ℕ) → P (asked x y)) → P (of-two asked a b)
-  two-asked asked a b holds = by (is-empty a || is-empty b) (numeral a) (numeral b)
-    where
-      by : (none : Bool) (m n : Numeral) → P (cond none (Refused WrongShape) (by-two asked m n))
-      by true m n = refused WrongShape
-      by false (Value x) (Value y) = holds x y
-      by false (Value x) NoNumber = refused NotANumber
-      by false NoNumber n = refused NotANumber
+abbrev pub with-two : List ℕ → ℕ → ℕ → List ℕ
+with-two known n m = known ++ (32 ∷ (decimal n ++ (32 ∷ decimal m)))
 
--- How a line begins that asks so.
-abbrev pub Begins : Request → List ℕ → Type 0
-Begins (SetArea w h) line = take 4 line ≡ AREA
-Begins (AskNumber i) line = take 1 line ≡ N
-Begins (AskSquare x y) line = take 1 line ≡ S
-Begins (Refused r) line = Unit {0}
+-- the fields of a line, with a space between each two
+between : List (List ℕ) → List ℕ
+between [] = []
+between (f ∷ []) = f
+between (f ∷ g ∷ fs) = f ++ (32 ∷ between (g ∷ fs))
 
-module _ (line first : List ℕ) (prefix : take (length first) line ≡ first) where
-  -- the first field is a known word, of which the line then has the bytes
-  begun-by : (known : List ℕ) → same-bytes first known ≡ true → take (length known) line ≡ known
-  begun-by known e = subst (λ (w : List ℕ). take (length w) line ≡ w) (same-true first known e) prefix
+before-first : (b : ℕ) (fs : List (List ℕ)) → between (onto b fs) ≡ b ∷ between fs
+unfolding between
+before-first b [] = refl
+before-first b (f ∷ []) = refl
+before-first b (f ∷ g ∷ fs) = refl
 
-  abbrev Begun : Request → Type 0
-  Begun q = Begins q line
-
-  two-begun : (a : List ℕ) → Begun (two-fields first a)
-  two-begun a = by (same-bytes first N) refl
-    where
-      by : (t : Bool) → same-bytes first N ≡ t → Begun (cond t (of-one AskNumber a) (Refused WrongShape))
-      by true e = one-asked Begun (λ r. tt) AskNumber a (λ i. begun-by N e)
-      by false e = tt
-
-  three-begun : (a b : List ℕ) → Begun (three-fields first a b)
-  three-begun a b = by (same-bytes first AREA) (same-bytes first S) refl refl
-    where
-      by : (t u : Bool) → same-bytes first AREA ≡ t → same-bytes first S ≡ u → Begun (cond t (of-two SetArea a b) (cond u (of-two AskSquare a b) (Refused WrongShape)))
-      by true u e f = two-asked Begun (λ r. tt) SetArea a b (λ w h. begun-by AREA e)
-      by false true e f = two-asked Begun (λ r. tt) AskSquare a b (λ x y. begun-by S f)
-      by false false e f = tt
-
-  shape-begun : (others : List (List ℕ)) → Begun (shaped (first ∷ others))
-  unfolding shaped
-  shape-begun [] = tt
-  shape-begun (a ∷ []) = two-begun a
-  shape-begun (a ∷ b ∷ []) = three-begun a b
-  shape-begun (a ∷ b ∷ c ∷ others) = tt
-
--- A line begins with the word of what it asks.
-pub begins-so : (line : List ℕ) → Begins (request line) line
-unfolding request
-begins-so line = by (leb (length line) 64)
+-- are the line
+between-fields : (s : List ℕ) → between (fields s) ≡ s
+unfolding fields between
+between-fields [] = refl
+between-fields (b ∷ s) = by (eqb b 32) refl (between-fields s)
   where
-    by : (t : Bool) → Begins (cond t (shaped (fields line)) (Refused LongLine)) line
-    by true = subst⁻¹ (λ (fs : List (List ℕ)). Begins (shaped fs) line) (fields-are line) (shape-begun line (word line) (word-take line) (rest line))
+    by : (t : Bool) → eqb b 32 ≡ t → between (fields s) ≡ s → between (cond t ([] ∷ fields s) (onto b (fields s))) ≡ b ∷ s
+    by true e joined =
+        ap (λ fs. between ([] ∷ fs)) (fields-are s) ∙ ap₂ (λ c zs. c ∷ zs) (sym (eqb-true b 32 e)) (ap between (sym (fields-are s)) ∙ joined)
+    by false e joined = before-first b (fields s) ∙ ap (λ zs. b ∷ zs) joined
+
+-- What a line says that asks so: the shape's word and its numbers in decimal, and nothing else.
+abbrev pub Says : Request → List ℕ → Type 0
+Says (SetArea w h) line = line ≡ with-two AREA w h
+Says (AskNumber i) line = line ≡ with-one N i
+Says (AskSquare x y) line = line ≡ with-two S x y
+Says (Refused r) line = Unit {0}
+
+module _ (line first : List ℕ) where
+  two-say : (a : List ℕ) → line ≡ first ++ (32 ∷ a) → Says (two-fields first a) line
+  two-say a is = by (same-bytes first N) (is-empty a) (numeral a) refl refl
+    where
+      by : (known none : Bool) (n : Numeral) → same-bytes first N ≡ known → numeral a ≡ n
+          → Says (cond known (cond none (Refused WrongShape) (by-one AskNumber n)) (Refused WrongShape)) line
+      by false none n e f = tt
+      by true true n e f = tt
+      by true false NoNumber e f = tt
+      by true false (Value i) e f = is ∙ ap₂ (λ w g. w ++ (32 ∷ g)) (same-true first N e) (only-text a i f)
+
+  -- AREA and S alike: what is asked with two numbers is said by the word and them
+  module _ (a b : List ℕ) (is : line ≡ first ++ (32 ∷ (a ++ (32 ∷ b)))) where
+    both-say : (known : List ℕ) (asked : ℕ → ℕ → Request) → same-bytes first known ≡ true → ((x y : ℕ) → line ≡ with-two known x y → Says (asked x y) line)
+        → Says (of-two asked a b) line
+    both-say known asked e said = by (is-empty a || is-empty b) (numeral a) (numeral b) refl refl
+      where
+        by : (none : Bool) (m n : Numeral) → numeral a ≡ m → numeral b ≡ n → Says (cond none (Refused WrongShape) (by-two asked m n)) line
+        by true m n f g = tt
+        by false NoNumber n f g = tt
+        by false (Value x) NoNumber f g = tt
+        by false (Value x) (Value y) f g =
+            said x y (is ∙ ap₂ (λ w t. w ++ (32 ∷ t)) (same-true first known e) (ap₂ (λ c d. c ++ (32 ∷ d)) (only-text a x f) (only-text b y g)))
+
+    three-say : Says (three-fields first a b) line
+    three-say = by (same-bytes first AREA) (same-bytes first S) refl refl
+      where
+        by : (t u : Bool) → same-bytes first AREA ≡ t → same-bytes first S ≡ u
+            → Says (cond t (of-two SetArea a b) (cond u (of-two AskSquare a b) (Refused WrongShape))) line
+        by true u e f = both-say AREA SetArea e (λ x y said. said)
+        by false true e f = both-say S AskSquare f (λ x y said. said)
+        by false false e f = tt
+
+  shape-says : (others : List (List ℕ)) → line ≡ between (first ∷ others) → Says (shaped (first ∷ others)) line
+  unfolding shaped between
+  shape-says [] is = tt
+  shape-says (a ∷ []) is = two-say a is
+  shape-says (a ∷ b ∷ []) is = three-say a b is
+  shape-says (a ∷ b ∷ c ∷ others) is = tt
+
+-- A line says what it asks, in one spelling: no other line asks for it.
+pub says-so : (line : List ℕ) → Says (request line) line
+unfolding request
+says-so line = by (leb (length line) 64)
+  where
+    by : (t : Bool) → Says (cond t (shaped (fields line)) (Refused LongLine)) line
+    by true =
+        subst⁻¹ (λ (fs : List (List ℕ)). Says (shaped fs) line) (fields-are line)
+        (shape-says line (word line) (rest line) (sym (between-fields line) ∙ ap between (fields-are line)))
     by false = tt
 
 -- bytes none of which is a space, as a word's and a number's
@@ -132,13 +154,6 @@ module _ (n : ℕ) (most : n ≤ 4294967295) where
   decimal-last : fields (decimal n) ≡ decimal n ∷ []
   decimal-last = field-last (decimal n) decimal-spaceless
 
--- A word with one number, and with two, behind it: the lines `N i`, `AREA w h` and `S x y`, spelt.
-abbrev pub with-one : List ℕ → ℕ → List ℕ
-with-one known n = known ++ (32 ∷ decimal n)
-
-abbrev pub with-two : List ℕ → ℕ → ℕ → List ℕ
-with-two known n m = known ++ (32 ∷ (decimal n ++ (32 ∷ decimal m)))
-
 -- what is asked by a word of at most four bytes, as all words are, and the fields behind it
 module _ (known : List ℕ) (whole : spaceless known ≡ true) (short : length known ≤ 4) (n : ℕ) (most : n ≤ 4294967295) where
   one-spelt : request (with-one known n) ≡ two-fields known (decimal n)
@@ -161,7 +176,7 @@ module _ (known : List ℕ) (whole : spaceless known ≡ true) (short : length k
       (field-first known (decimal n ++ (32 ∷ decimal m)) whole
       ∙ ap (λ fs. known ∷ fs) (field-first (decimal n) (decimal m) (decimal-spaceless n most) ∙ ap (λ fs. decimal n ∷ fs) (decimal-last m most′))))
 
--- `N i`, `AREA w h` and `S x y`, spelt, ask for just these numbers.
+-- `N i`, `AREA w h` and `S x y`, spelt, ask for these numbers.
 pub number-spelt : (i : ℕ) → i ≤ 4294967295 → request (with-one N i) ≡ AskNumber i
 unfolding same-bytes spaceless
 number-spelt i l = one-spelt N refl (lit≤ tt) i l ∙ rw (decimal-some i l, read-back i l) refl

@@ -37,7 +37,7 @@ fields-are (b ∷ s) = by (fields-are s) (eqb b 32) refl
     by are false e =
         rw e (ap (onto b) are ∙ ap (λ t. (b ∷ word s) ∷ cond t (fields (drop (suc (length (word s))) s)) []) (ltb-suc (length (word s)) (length s)))
 
-pub word-take : (s : List ℕ) → take (length (word s)) s ≡ word s
+word-take : (s : List ℕ) → take (length (word s)) s ≡ word s
 unfolding word
 word-take [] = refl
 word-take (b ∷ s) = by (word-take s) (eqb b 32) refl

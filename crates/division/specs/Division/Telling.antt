@@ -1,5 +1,5 @@
 -- Cases of our own, in the form of Worked.antt's and under one claim, which computes as that one does. They tell document 01's rules from rules that
--- come close to them, such as the worked cases let pass. The values are those of the independent program in tests/, and tests/telling.rs compares them.
+-- come close to them and that the worked cases let pass. The values are those of the independent program in tests/, and tests/telling.rs compares them.
 -- What the two tables pin, for lengths up to 12, is "2a > 3b: the long cut. Otherwise: the U cut.", "The even half of a length L is L div 2, and one more
 -- if L > 2 and L div 2 is odd.", "m = a div 2 (never made even)", and of A that it "runs in the block's side direction".
 use mathlib.Core.List.{List, [], _∷_}
