@@ -29,26 +29,33 @@ told-other : (word : spec.Word) (first : List ℕ) (f : Figures) (b : Bool) → 
 told-other word first f true l e = omega arith
 told-other word first f false l e = omega arith
 
-under-other : (clerk : Clerk) (word : spec.Word) (f : Area → Figures) → 1 ≤ word-mark word → mark (spec.under clerk (λ area. spec.told word [] (f area))) ≡ 0 → ⊥
+under-other : (clerk : Clerk) (word : spec.Word) (f : Area → Figures) → 1 ≤ word-mark word
+    → mark (spec.under clerk (λ area. spec.told word [] (f area))) ≡ 0 → ⊥
 under-other NoArea word f l e = omega arith
 under-other (InForce area) word f l e = told-other word [] (f area) (eqb (f area .refusal) 0) l e
 
-module _ (v u w h : ℕ) (rest : List ℕ) (e : spec.told spec.Area-set (v ∷ u ∷ (v * u) ∷ []) (finish-square v u) ≡ spec.says spec.Area-set (w ∷ h ∷ rest)) where
+-- what is said to an AREA line
+abbrev to-area : ℕ → ℕ → spec.Said
+to-area w h = spec.told spec.Area-set (w ∷ h ∷ (w * h) ∷ []) (finish-square w h)
+
+module _ (v u w h : ℕ) (rest : List ℕ) (e : to-area v u ≡ spec.says spec.Area-set (w ∷ h ∷ rest)) where
   set-by : (t : Bool) → accepted v u ≡ t → spec.in-force (record { w = v; h = u }) ≡ InForce (record { w = w; h = h })
   unfolding finish-square
   set-by true ok =
-      let is : spec.told spec.Area-set (v ∷ u ∷ (v * u) ∷ []) (finish-square v u) ≡ spec.says spec.Area-set (v ∷ u ∷ (v * u) ∷ finish-square v u .values) = rw ok refl in
+      let is : to-area v u ≡ spec.says spec.Area-set (v ∷ u ∷ (v * u) ∷ finish-square v u .values) = rw ok refl in
       rw ok (λ i. InForce (record { w = value 0 ((sym is ∙ e) i); h = value 1 ((sym is ∙ e) i) }))
   set-by false bad =
-      let is : mark (spec.told spec.Area-set (v ∷ u ∷ (v * u) ∷ []) (finish-square v u)) ≡ 3 = rw bad refl in
-      let other : mark (spec.told spec.Area-set (v ∷ u ∷ (v * u) ∷ []) (finish-square v u)) ≡ 0 = ap mark e in
+      let is : mark (to-area v u) ≡ 3 = rw bad refl in
+      let other : mark (to-area v u) ≡ 0 = ap mark e in
       absurd (omega arith)
 
 left-set : (clerk : Clerk) (begins : Bool) (q : Request) (w h : ℕ) (rest : List ℕ) → spec.due clerk q ≡ spec.says spec.Area-set (w ∷ h ∷ rest)
     → spec.left-by clerk begins q ≡ InForce (record { w = w; h = h })
 left-set clerk begins (SetArea v u) w h rest e = set-by v u w h rest e (accepted v u) refl
-left-set clerk begins (AskNumber i) w h rest e = absurd (under-other clerk spec.Cell (λ area. number-to-square (area .w) (area .h) i) (lit≤ tt) (ap mark e))
-left-set clerk begins (AskSquare x y) w h rest e = absurd (under-other clerk spec.Number (λ area. square-to-number (area .w) (area .h) x y) (lit≤ tt) (ap mark e))
+left-set clerk begins (AskNumber i) w h rest e =
+    absurd (under-other clerk spec.Cell (λ area. number-to-square (area .w) (area .h) i) (lit≤ tt) (ap mark e))
+left-set clerk begins (AskSquare x y) w h rest e =
+    absurd (under-other clerk spec.Number (λ area. square-to-number (area .w) (area .h) x y) (lit≤ tt) (ap mark e))
 left-set clerk begins (Requests.the-variants.Refused r) w h rest e = let other : _≡_ {A = ℕ} 3 0 = ap mark e in absurd (omega arith)
 
 pub set-in-force : (clerk : Clerk) (line : List ℕ) (w h : ℕ) (rest : List ℕ) → spec.reply clerk line ≡ spec.says spec.Area-set (w ∷ h ∷ rest)
@@ -58,22 +65,19 @@ set-in-force clerk line w h rest e = left-set clerk (spec.begins-area line) (req
 
 -- an area that is refused, and one that is not
 module _ (w h : ℕ) where
-  abbrev reply-to-area : spec.Said
-  reply-to-area = spec.told spec.Area-set (w ∷ h ∷ (w * h) ∷ []) (finish-square w h)
-
-  set-or-refused : (t : Bool) → accepted w h ≡ t → mark reply-to-area ≡ cond t 0 3
+  set-or-refused : (t : Bool) → accepted w h ≡ t → mark (to-area w h) ≡ cond t 0 3
   unfolding finish-square
   set-or-refused true e = rw e refl
   set-or-refused false e = rw e refl
 
-  refused-set : reply-to-area .word ≡ spec.Refused → accepted w h ≡ false
+  refused-set : to-area w h .word ≡ spec.Refused → accepted w h ≡ false
   refused-set e = by (accepted w h) refl
     where
       by : (t : Bool) → accepted w h ≡ t → accepted w h ≡ false
       by false p = p
       by true p = let is = ap word-mark e in let other = set-or-refused true p in absurd (omega arith)
 
-  answered-set : (reply-to-area .word ≡ spec.Refused → ⊥) → accepted w h ≡ true
+  answered-set : (to-area w h .word ≡ spec.Refused → ⊥) → accepted w h ≡ true
   unfolding finish-square
   answered-set n = by (accepted w h) refl
     where

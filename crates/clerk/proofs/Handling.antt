@@ -34,7 +34,8 @@ word-mark spec.Refused = 3
 abbrev pub mark : spec.Said → ℕ
 mark s = word-mark (s .word)
 
-pub told-refused : (word : spec.Word) (first : List ℕ) (r : Refusal) (n : ℕ) → spec.says spec.Refused (refusal-number r ∷ []) ≡ spec.told word first (refused r n)
+pub told-refused : (word : spec.Word) (first : List ℕ) (r : Refusal) (n : ℕ)
+    → spec.says spec.Refused (refusal-number r ∷ []) ≡ spec.told word first (refused r n)
 told-refused word first r n = sym (rw (ne-eqb (refusal-number r) 0 (refusal-some r)))
 
 -- a finish square is found under an accepted area, whose squares are a 32-bit number

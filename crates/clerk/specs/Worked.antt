@@ -61,6 +61,7 @@ holds w h NoArea = false
 holds w h (InForce area) = eqb (area .w) w && eqb (area .h) h
 
 right : Case → Bool
+unfolding same-numbers is-refusal is-area holds-none holds three-by-four reply after request shaped fields same-bytes numeral is-number all-digits value-on
 right (with-none line r) = is-refusal r (reply NoArea (bytes line)) && holds-none (after NoArea (bytes line))
 right (stays line r) = is-refusal r (reply three-by-four (bytes line)) && holds 3 4 (after three-by-four (bytes line))
 right (clears line r) = is-refusal r (reply three-by-four (bytes line)) && holds-none (after three-by-four (bytes line))
@@ -73,6 +74,7 @@ right (long-stays line r) = is-refusal r (reply three-by-four line) && holds 3 4
 right (long-clears line r) = is-refusal r (reply three-by-four line) && holds-none (after three-by-four line)
 
 pub all-right : List Case → Bool
+unfolding right accepted number-to-square square-to-number finish-square
 all-right [] = true
 all-right (c ∷ cs) = right c && all-right cs
 
@@ -160,5 +162,5 @@ worked =
     ∷ []
 
 pub worked-right : T (all-right worked)
-unfolding worked all-right right same-numbers is-refusal is-area holds-none holds three-by-four reply after request shaped fields same-bytes numeral is-number all-digits value-on accepted number-to-square square-to-number finish-square
+unfolding worked all-right
 worked-right = tt

@@ -7,6 +7,7 @@ use Prim.Native.String.{String}
 use native.Mathlib.Nat.{le-refl}
 use native.Mathlib.Omega.{arith}
 use lib.Dec.{leb, eqb, lit<}
+use lib.ListN.{drop}
 use Rattle.terms.specs.declared.Refusal.the-variants.{NumberOutside}
 use Rattle.terms.specs.Terms.{accepted, answered, refused}
 use Rattle.terms.proofs.Laws.{bit}
@@ -49,8 +50,8 @@ abbrev pub printed : String
 printed = "1 AREA 3 4 12 2 0\n2 CELL 2 1 3\n3 NUMBER 8 3\n4 REFUSED 5\n5 REFUSED 3\n"
 
 -- one line answered, and the rest with the area then in force
-line-answered : (clerk : Clerk) (n : ℕ) (line : List ℕ) (lines : List (List ℕ)) (said : Said) (left : Clerk) → leb n 65535 ≡ true → reply clerk line ≡ said
-    → after clerk line ≡ left → answers clerk n (line ∷ lines) ≡ text n said ++ answers left (n + 1) lines
+line-answered : (clerk : Clerk) (n : ℕ) (line : List ℕ) (lines : List (List ℕ)) (said : Said) (left : Clerk) → leb n 65535 ≡ true
+    → reply clerk line ≡ said → after clerk line ≡ left → answers clerk n (line ∷ lines) ≡ text n said ++ answers left (n + 1) lines
 unfolding answers
 line-answered clerk n line lines said left l r a = rw l (ap₂ (λ s c. text n s ++ answers c (n + 1) lines) r a)
 
@@ -83,7 +84,9 @@ unfolding three-by-four after request shaped fields same-bytes numeral is-number
 sets-it = refl
 
 keeps-it : (line : List ℕ) → begins-area line ≡ false → after three-by-four line ≡ three-by-four
-keeps-it line e = others-alter-nothing three-by-four line (λ begins. let z : _≡_ {A = ℕ} 0 1 = ap bit (sym e ∙ ap (λ b. same-bytes b AREA) begins ∙ same-itself AREA) in omega arith)
+keeps-it line e =
+    others-alter-nothing three-by-four line
+    (λ begins. let z : _≡_ {A = ℕ} 0 1 = ap bit (sym e ∙ ap (λ b. same-bytes b AREA) begins ∙ same-itself AREA) in omega arith)
 
 -- the input's five lines
 abbrev the-lines : List (List ℕ)
@@ -105,19 +108,22 @@ unfolding text decimal decimal-by
 joined = refl
 
 -- a line of the four that leave the area, answered before what is left of them
-next : (n : ℕ) (line : List ℕ) (lines : List (List ℕ)) (rest : List ℕ) → leb n 65535 ≡ true → begins-area line ≡ false → reply three-by-four line ≡ said n
-    → answers three-by-four (n + 1) lines ≡ rest → answers three-by-four n (line ∷ lines) ≡ text n (said n) ++ rest
+next : (n : ℕ) (line : List ℕ) (lines : List (List ℕ)) (rest : List ℕ) → leb n 65535 ≡ true → begins-area line ≡ false
+    → reply three-by-four line ≡ said n → answers three-by-four (n + 1) lines ≡ rest → answers three-by-four n (line ∷ lines) ≡ text n (said n) ++ rest
 next n line lines rest l other r e =
     line-answered three-by-four n line lines (said n) three-by-four l r (keeps-it line other) ∙ ap (λ t. text n (said n) ++ t) e
 
 pub example : output (bytes input) ≡ bytes printed
 unfolding output answers same-bytes
 example =
+    let told-5 : List ℕ = text 5 (said 5) ++ [] in
+    let told-4 : List ℕ = text 4 (said 4) ++ told-5 in
+    let told-3 : List ℕ = text 3 (said 3) ++ told-4 in
     let fifth = next 5 (bytes "N 12") [] [] refl refl too-high refl in
-    let fourth = next 4 (bytes "N 3E4") (bytes "N 12" ∷ []) (text 5 (said 5) ++ []) refl refl no-number fifth in
-    let third = next 3 (bytes "S 2 1") (bytes "N 3E4" ∷ bytes "N 12" ∷ []) (text 4 (said 4) ++ (text 5 (said 5) ++ [])) refl refl asked-square fourth in
-    let second = next 2 (bytes "N 8") (bytes "S 2 1" ∷ bytes "N 3E4" ∷ bytes "N 12" ∷ []) (text 3 (said 3) ++ (text 4 (said 4) ++ (text 5 (said 5) ++ []))) refl refl asked-number third in
+    let fourth = next 4 (bytes "N 3E4") (drop 4 the-lines) told-5 refl refl no-number fifth in
+    let third = next 3 (bytes "S 2 1") (drop 3 the-lines) told-4 refl refl asked-square fourth in
+    let second = next 2 (bytes "N 8") (drop 2 the-lines) told-3 refl refl asked-number third in
     ap (answers NoArea 1) cut
-    ∙ line-answered NoArea 1 (bytes "AREA 3 4") (bytes "N 8" ∷ bytes "S 2 1" ∷ bytes "N 3E4" ∷ bytes "N 12" ∷ []) (said 1) three-by-four refl set sets-it
+    ∙ line-answered NoArea 1 (bytes "AREA 3 4") (drop 1 the-lines) (said 1) three-by-four refl set sets-it
     ∙ ap (λ t. text 1 (said 1) ++ t) second
     ∙ joined

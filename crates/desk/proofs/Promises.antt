@@ -19,7 +19,7 @@ use Rattle.desk.specs.Desk.{lines-of, answers, output}
 use Rattle.desk.specs.Steps.{at-first, stopped, prints-last-any, Result, Feeds}
 
 -- Two results of `feed` that meet its promise are one: desk, line kept, place in the piece, output and place in it. Of `finish`, `writes-one` says it.
-pub feed-one : {f : Result} {from : ℕ} {out : List ℕ} {at : ℕ} {d d′ : Desk} {kept kept′ : List ℕ} {next next′ : ℕ} {written written′ : List ℕ} {end end′ : ℕ}
+pub feed-one : {f : Result} {from at next next′ end end′ : ℕ} {d d′ : Desk} {out kept kept′ written written′ : List ℕ}
     → Feeds f from out at d kept next written end → Feeds f from out at d′ kept′ next′ written′ end′
     → (d ≡ d′) × (kept ≡ kept′) × (next ≡ next′) × (written ≡ written′) × (end ≡ end′)
 feed-one one other =

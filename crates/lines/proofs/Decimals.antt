@@ -91,10 +91,11 @@ prints-more n l p =
     let last = (48 + n % 10) ∷ [] in
     let size = length-append front last in
     let some = p .some in
+    let whole : n / 10 * 10 + (48 + n % 10 - 48) ≡ n = omega arith in
     record {
       some = omega arith;
       digits = digits-append front last (p .digits) (a-digit (n % 10) (omega arith));
-      valued = value-append 0 front last ∙ ap (λ v. v * 10 + (48 + n % 10 - 48)) (p .valued) ∙ (let whole : n / 10 * 10 + (48 + n % 10 - 48) ≡ n = omega arith in whole);
+      valued = value-append 0 front last ∙ ap (λ v. v * 10 + (48 + n % 10 - 48)) (p .valued) ∙ whole;
       begun = λ m. let first = List·getD-append front last 0 0 some in let high = p .begun (omega arith) in omega arith;
     }
 
@@ -128,8 +129,8 @@ read-back n l =
     let p = prints n in
     let few = ten-digits n (omega arith) in
     let same = p .valued in
-    rw (le-leb 1 (length (decimal n)) (p .some), le-leb (length (decimal n)) 10 few, p .digits, printed-begun n, le-leb (value (decimal n)) 4294967295 (omega arith))
-    (ap Value same)
+    let within = le-leb (value (decimal n)) 4294967295 (omega arith) in
+    rw (le-leb 1 (length (decimal n)) (p .some), le-leb (length (decimal n)) 10 few, p .digits, printed-begun n, within) (ap Value same)
 
 -- What is known of a field that is read as n.
 pub record Reads (f : List ℕ) (n : ℕ) : Type 0 where

@@ -13,7 +13,8 @@ use Rattle.lines.specs.Decimal.{decimal-by, decimal}
 use Rattle.replies.specs.Text.{text, stop, longest, Writes, if-room}
 
 -- Two results that meet the promise of `write_reply`, of `write_stop` or of a call that writes as they do are one.
-pub writes-one : {before bytes one other : List ℕ} {at end end′ : ℕ} → Writes before at bytes one end → Writes before at bytes other end′ → (one ≡ other) × (end ≡ end′)
+pub writes-one : {before bytes one other : List ℕ} {at end end′ : ℕ} → Writes before at bytes one end → Writes before at bytes other end′
+    → (one ≡ other) × (end ≡ end′)
 writes-one w w′ = (w .written ∙ sym (w′ .written), w .behind ∙ sym (w′ .behind))
 
 -- Of `has_room`: one that always finds room, and one that asks for a single byte.
