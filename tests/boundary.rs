@@ -1,32 +1,15 @@
 // boundary SEED: the library's C functions against the independent reading of document 01: every area up to 40 by 40 whole, and random and hostile
 // arguments by the hundred thousand. The seed is printed, and what was asked, where an answer differs.
+mod expected;
 mod independent;
 mod random;
 #[path = "../bindings/rust/src/raw.rs"]
 mod raw;
 
-use independent::{Answer, Reply};
+use expected::{due, line_due, UNTOUCHED};
 use random::{near, Lines, Random};
 
-const UNTOUCHED: u32 = 0xDEAD_BEEF;
-const SHORT: u32 = 255;
 const MOST: u64 = 4294967295;
-
-// What a call with a result slice of this length should return and leave in it, given the answer that is due and how many values it has.
-fn due(answer: &Answer, values: usize, length: usize) -> (u32, Vec<u64>) {
-    let mut left = vec![UNTOUCHED as u64; length];
-    if length < values {
-        return (SHORT, left);
-    }
-    let (returned, figures) = match answer {
-        Ok(figures) => (0, figures.clone()),
-        Err(refusal) => (*refusal as u32, vec![0; values]),
-    };
-    for (place, figure) in left.iter_mut().zip(figures) {
-        *place = figure as u64;
-    }
-    (returned, left)
-}
 
 // A slice for results, and what a call left in it.
 fn result(length: usize) -> Vec<u32> {
@@ -187,27 +170,11 @@ fn line(lines: &mut Lines, (w, h): (u32, u32)) -> (u32, u32) {
     let random = &mut lines.random;
     let line = stretched(random, line);
     let (w, h) = if random.below(30) == 0 { (side(random), side(random)) } else { (w, h) };
-    let (wide, high) = (w as i64, h as i64);
-    let (reply, area) = independent::answered(&line, independent::accepted(wide, high).then_some((wide, high)));
-    let after = area.unwrap_or((0, 0));
-    let (returned, figures) = match reply {
-        Reply::Area { w, h, squares, x, y } => (0, [w, h, 1, squares, x, y]),
-        Reply::Cell { x, y, blocks } => (0, [after.0, after.1, 2, x, y, blocks]),
-        Reply::Number { number, blocks } => (0, [after.0, after.1, 3, number, blocks, 0]),
-        Reply::Refused(refusal) => (refusal as u32, [after.0, after.1, 0, 0, 0, 0]),
-    };
     let text = String::from_utf8_lossy(&line[..line.len().min(80)]);
     let length = if random.below(4) == 0 { random.below(9) as usize } else { 8 };
-    let mut left = vec![UNTOUCHED as u64; length];
-    if length < 6 {
-        assert_eq!(handle_line(w, h, &line, length), (SHORT, left), "line {text:?} under {w} by {h} into {length} places");
-        return (w, h);
-    }
-    for (place, figure) in left.iter_mut().zip(figures) {
-        *place = figure as u64;
-    }
-    assert_eq!(handle_line(w, h, &line, length), (returned, left), "line {text:?} under {w} by {h} into {length} places");
-    (after.0 as u32, after.1 as u32)
+    let answer = line_due(w, h, &line, length);
+    assert_eq!(handle_line(w, h, &line, length), answer, "line {text:?} under {w} by {h} into {length} places");
+    if length < 6 { (w, h) } else { (answer.1[0] as u32, answer.1[1] as u32) }
 }
 
 // Lengths are compared whole: a table of 2^32 + 12 places is not one of 12. No such table is made, since none of its places is looked at.

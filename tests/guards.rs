@@ -1,0 +1,273 @@
+// guards: the library's C functions with every slice that they are lent laid against memory that may not be touched, once up to its end and once from
+// its beginning on. What a call may not alter lies in pages that can only be read: a line, a table under a check or a refused fill, a slice that is too
+// short. Each answer is held to the independent program's. A touch of anything else ends the program, which says what was asked.
+mod expected;
+#[allow(dead_code)] // whole traversals are not needed here
+mod independent;
+#[allow(dead_code)] // nor are random numbers
+mod random;
+#[path = "../bindings/rust/src/raw.rs"]
+mod raw;
+
+use expected::{due, line_due, UNTOUCHED};
+use random::Lines;
+use std::cell::Cell;
+use std::ffi::{c_int, c_long, c_void};
+use std::sync::Mutex;
+
+extern "C" {
+    fn mmap(address: *mut c_void, length: usize, protection: c_int, flags: c_int, file: c_int, offset: c_long) -> *mut c_void;
+    fn mprotect(address: *mut c_void, length: usize, protection: c_int) -> c_int;
+    fn sysconf(name: c_int) -> c_long;
+    fn signal(number: c_int, handler: extern "C" fn(c_int)) -> usize;
+}
+
+// Linux's numbers, which are the same on x86-64 and Arm.
+const PROT_NONE: c_int = 0;
+const PROT_READ: c_int = 1;
+const PROT_BOTH: c_int = 3;
+const MAP_PRIVATE_ANONYMOUS_NORESERVE: c_int = 0x4022;
+const SC_PAGESIZE: c_int = 30;
+const SIGBUS: c_int = 7;
+const SIGSEGV: c_int = 11;
+
+// The bytes of a guard: no place with a 32-bit number lies behind it.
+const GUARD: usize = 1 << 34;
+
+// The guard that a slice lies against.
+#[derive(Clone, Copy, Debug)]
+enum Guard {
+    Before,
+    Behind,
+}
+
+// Pages between two guards, and what may be done with them at the moment.
+struct Pages {
+    start: *mut u8,
+    bytes: usize,
+    allowed: Cell<c_int>,
+}
+
+impl Pages {
+    fn for_bytes(bytes: usize) -> Pages {
+        // SAFETY: the memory is new, and the pages lie within it.
+        unsafe {
+            let bytes = bytes.next_multiple_of(sysconf(SC_PAGESIZE) as usize);
+            let all = mmap(std::ptr::null_mut(), GUARD + bytes + GUARD, PROT_NONE, MAP_PRIVATE_ANONYMOUS_NORESERVE, -1, 0);
+            assert!(all as isize != -1, "there is no room for the guards");
+            Pages { start: all.cast::<u8>().add(GUARD), bytes, allowed: Cell::new(PROT_NONE) }
+        }
+    }
+
+    fn allow(&self, protection: c_int) {
+        if self.allowed.replace(protection) == protection {
+            return;
+        }
+        // SAFETY: nothing but what is laid here lies in these pages.
+        assert_eq!(unsafe { mprotect(self.start.cast(), self.bytes, protection) }, 0, "the pages cannot be protected");
+    }
+
+    // Lays values against a guard, for the library to read or also to write.
+    fn lay<T: Copy>(&self, values: &[T], guard: Guard, protection: c_int) -> *mut T {
+        let bytes = size_of_val(values);
+        assert!(bytes <= self.bytes, "{bytes} bytes do not fit into {}", self.bytes);
+        let offset = match guard {
+            Guard::Before => 0,
+            Guard::Behind => self.bytes - bytes,
+        };
+        self.allow(PROT_BOTH);
+        // SAFETY: the values fit, and both ends of the pages are fit for a number of any type.
+        let slice = unsafe { self.start.add(offset) }.cast::<T>();
+        unsafe { slice.copy_from_nonoverlapping(values.as_ptr(), values.len()) };
+        self.allow(protection);
+        slice
+    }
+}
+
+// What lies in a slice that was laid, after a call.
+fn left<T: Copy>(slice: *const T, length: usize) -> Vec<T> {
+    // SAFETY: it was laid with this length.
+    unsafe { std::slice::from_raw_parts(slice, length) }.to_vec()
+}
+
+// What the library is asked, for the message.
+static ASKED: Mutex<String> = Mutex::new(String::new());
+
+extern "C" fn touched(_: c_int) {
+    println!("guards: what may not be touched was touched: {}", ASKED.lock().unwrap());
+    std::process::exit(1);
+}
+
+// Pages for the results, for a short table or line, and for a long one; and how many calls were made.
+struct Room {
+    results: Pages,
+    short: Pages,
+    long: Pages,
+    calls: Cell<u64>,
+}
+
+impl Room {
+    // Lays a table or a line.
+    fn lay<T: Copy>(&self, values: &[T], guard: Guard, protection: c_int) -> *mut T {
+        let pages = if size_of_val(values) <= self.short.bytes { &self.short } else { &self.long };
+        pages.lay(values, guard, protection)
+    }
+
+    // One question, with a result slice of every length up to two places more than enough, against either guard. What is due is given by the length.
+    fn ask<T: Copy + From<u32> + Into<u64>>(
+        &self,
+        what: &str,
+        values: usize,
+        due: impl Fn(usize) -> (u32, Vec<u64>),
+        call: impl Fn(*mut T, usize, Guard) -> u32,
+    ) {
+        for length in 0..=values + 2 {
+            let due = due(length);
+            for guard in [Guard::Before, Guard::Behind] {
+                let asked = format!("{what}, {length} places for the result, guard: {guard:?}");
+                asked.clone_into(&mut ASKED.lock().unwrap());
+                let result = self.results.lay(&vec![T::from(UNTOUCHED); length], guard, if length < values { PROT_READ } else { PROT_BOTH });
+                let returned = call(result, length, guard);
+                assert_eq!((returned, left(result, length).into_iter().map(T::into).collect()), due, "{asked}");
+                self.calls.set(self.calls.get() + 1);
+            }
+        }
+    }
+}
+
+// SAFETY, here and below: each slice is passed with its own length, and no two of them overlap.
+fn number_to_square(room: &Room, w: u32, h: u32, number: u32) {
+    let answer = independent::number_to_square(w as i64, h as i64, number as i64);
+    let call = |result, length, _| unsafe { raw::uvalinda_number_to_square(w, h, number, result, length) };
+    room.ask(&format!("number {number} of {w} by {h}"), 3, |length| due(&answer, 3, length), call);
+}
+
+fn square_to_number(room: &Room, w: u32, h: u32, x: u32, y: u32) {
+    let answer = independent::square_to_number(w as i64, h as i64, x as i64, y as i64);
+    let call = |result, length, _| unsafe { raw::uvalinda_square_to_number(w, h, x, y, result, length) };
+    room.ask(&format!("square ({x}, {y}) of {w} by {h}"), 2, |length| due(&answer, 2, length), call);
+}
+
+fn finish_square(room: &Room, w: u32, h: u32) {
+    let answer = independent::finish_square(w as i64, h as i64);
+    let call = |result, length, _| unsafe { raw::uvalinda_finish_square(w, h, result, length) };
+    room.ask(&format!("finish square of {w} by {h}"), 2, |length| due(&answer, 2, length), call);
+}
+
+fn fill(room: &Room, w: u32, h: u32, by_square: bool, places: usize) {
+    let what = format!("fill of {w} by {h}, {places} places, by square: {by_square}");
+    let answer = independent::fill(w as i64, h as i64, places);
+    let before = vec![UNTOUCHED; places];
+    let filled = if answer.is_ok() { independent::table_due(w as i64, h as i64, by_square) } else { vec![] };
+    let function = if by_square { raw::uvalinda_fill_by_square } else { raw::uvalinda_fill_by_number };
+    let call = |blocks, length, guard| {
+        let (after, protection) = if answer.is_ok() && length >= 1 { (&filled, PROT_BOTH) } else { (&before, PROT_READ) };
+        let table = room.lay(&before, guard, protection);
+        let returned = unsafe { function(w, h, table, places, blocks, length) };
+        assert!(left(table, places) == *after, "the table after a {what}, {length} places for the result, guard: {guard:?}");
+        returned
+    };
+    room.ask::<u64>(&what, 1, |length| due(&answer, 1, length), call);
+}
+
+fn check(room: &Room, w: u32, h: u32, by_square: bool, table: &[u32]) {
+    let answer = independent::check(w as i64, h as i64, by_square, table);
+    let function = if by_square { raw::uvalinda_check_by_square } else { raw::uvalinda_check_by_number };
+    let call = |result, length, guard| unsafe { function(w, h, room.lay(table, guard, PROT_READ), table.len(), result, length) };
+    let what = format!("check of {w} by {h}, {} places, by square: {by_square}, due: {answer:?}", table.len());
+    room.ask(&what, 3, |length| due(&answer, 3, length), call);
+}
+
+fn handle_line(room: &Room, w: u32, h: u32, line: &[u8]) {
+    let text = String::from_utf8_lossy(&line[..line.len().min(80)]);
+    let call = |result, length, guard| unsafe { raw::uvalinda_handle_line(w, h, room.lay(line, guard, PROT_READ), line.len(), result, length) };
+    room.ask(&format!("line {text:?}, {} bytes, under {w} by {h}", line.len()), 6, |length| line_due(w, h, line, length), call);
+}
+
+// Fills and checks of a table of some length; where it is the right one, checks of a right table and of one that is wrong at either end or in the middle.
+fn tables(room: &Room, w: u32, h: u32, places: usize) {
+    for by_square in [false, true] {
+        fill(room, w, h, by_square, places);
+        if independent::fill(w as i64, h as i64, places).is_err() {
+            check(room, w, h, by_square, &vec![0; places]);
+            continue;
+        }
+        let mut table = independent::table_due(w as i64, h as i64, by_square);
+        check(room, w, h, by_square, &table);
+        for place in [places - 1, places / 2, 0] {
+            table[place] ^= 1;
+            check(room, w, h, by_square, &table);
+        }
+    }
+}
+
+// A small area: every number, every square, those past the ends, and tables of the right and of other lengths.
+fn small_area(room: &Room, w: u32, h: u32) {
+    let squares = w * h;
+    for number in 0..=squares + 1 {
+        number_to_square(room, w, h, number);
+    }
+    for (x, y) in (0..=w).flat_map(|x| (0..=h).map(move |y| (x, y))) {
+        square_to_number(room, w, h, x, y);
+    }
+    finish_square(room, w, h);
+    for places in [0, 1, squares.saturating_sub(1), squares, squares + 1, 2 * squares] {
+        tables(room, w, h, places as usize);
+    }
+}
+
+// A large area, or one that is none: numbers and squares about its ends, and tables of some lengths.
+fn large_area(room: &Room, w: u32, h: u32, lengths: &[usize]) {
+    let ends = |n: u32| [0, 1, n / 2, n.wrapping_sub(1), n, n.wrapping_add(1), u32::MAX];
+    for number in ends(w.wrapping_mul(h)) {
+        number_to_square(room, w, h, number);
+    }
+    for (x, y) in ends(w).into_iter().flat_map(|x| ends(h).map(|y| (x, y))) {
+        square_to_number(room, w, h, x, y);
+    }
+    finish_square(room, w, h);
+    for &places in lengths {
+        tables(room, w, h, places);
+    }
+}
+
+// Lines of every length up to 70 bytes and some longer, cut from right lines and from ones that go on for ever; then random lines, each under the area that
+// the one before it left.
+fn lines(room: &Room) {
+    let right = [("AREA 12 11", b'7'), ("AREA 12 11", b' '), ("N 4294967295", b'9'), ("N 130", b' '), ("S 11 10", b' '), ("S 3 4", b'0')];
+    for (start, goes_on) in right.into_iter().chain([("", b'7'), ("", 0)]) {
+        for length in (0..=70).chain([255, 256, 257, 4_095, 4_096, 65_536, 70_000]) {
+            let mut line = start.as_bytes()[..start.len().min(length)].to_vec();
+            line.resize(length, goes_on);
+            handle_line(room, 12, 11, &line);
+            handle_line(room, 0, 0, &line);
+        }
+    }
+    let mut lines = Lines::from(1);
+    let (mut w, mut h) = (0, 0);
+    for line in std::iter::repeat_with(|| lines.next()).take(5_000) {
+        handle_line(room, w, h, &line);
+        let (_, after) = line_due(w, h, &line, 6);
+        (w, h) = (after[0] as u32, after[1] as u32);
+    }
+}
+
+fn main() {
+    for number in [SIGSEGV, SIGBUS] {
+        // SAFETY: no call of the library is made while the text for the message is written.
+        unsafe { signal(number, touched) };
+    }
+    let room = Room { results: Pages::for_bytes(4_096), short: Pages::for_bytes(4_096), long: Pages::for_bytes(1 << 20), calls: Cell::new(0) };
+    for (w, h) in (0..=12).flat_map(|w| (0..=12).map(move |h| (w, h))) {
+        small_area(&room, w, h);
+    }
+    for (w, h) in [(65535, 1), (1, 65535), (65535, 3), (2, 65535), (300, 200)] {
+        large_area(&room, w, h, &[w as usize * h as usize, 65_535, 65_536]);
+    }
+    large_area(&room, 65535, 65535, &[0, 12]);
+    for (w, h) in [(65536, 1), (1, 65536), (65536, 65536), (u32::MAX, 1), (1, u32::MAX), (u32::MAX, u32::MAX), (0, 65536)] {
+        large_area(&room, w, h, &[0, 1, 65_536]);
+    }
+    lines(&room);
+    println!("guards: {} calls, and none touches what it was not lent", room.calls.get());
+}
