@@ -1,5 +1,5 @@
 -- Document 01's sentences on the area in force, for every clerk and every line: which lines set it, which clear it, and that no other line alters it.
--- A line says what it asks, so that no N or S line begins with AREA, and every line that asks for an area does.
+-- A line says what it asks, so that no N or S line begins with AREA, and every line that asks for an area begins with it.
 use mathlib.Core.Bool.{Bool, true, false, cond}
 use mathlib.Core.List.{List, [], _∷_, _++_}
 use mathlib.Core.Path.{_≡_, refl, sym, ap, _∙_}
@@ -23,7 +23,7 @@ use Rattle.clerk.specs.declared.Clerk.the-variants.{NoArea, InForce}
 use Rattle.clerk.specs.Clerk as spec
 use Rattle.clerk.proofs.Handling.{value, word-mark, mark}
 
--- An AREA reply's width and height are the area then in force: "An accepted AREA line sets the area for the lines below it."
+-- a reply with another word than AREA
 told-other : (word : spec.Word) (first : List ℕ) (f : Figures) (b : Bool) → 1 ≤ word-mark word
     → mark (cond b (spec.says word (first ++ f .values)) (spec.says spec.Refused (f .refusal ∷ []))) ≡ 0 → ⊥
 told-other word first f true l e = omega arith
@@ -58,6 +58,7 @@ left-set clerk begins (AskSquare x y) w h rest e =
     absurd (under-other clerk spec.Number (λ area. square-to-number (area .w) (area .h) x y) (lit≤ tt) (ap mark e))
 left-set clerk begins (Requests.the-variants.Refused r) w h rest e = let other : _≡_ {A = ℕ} 3 0 = ap mark e in absurd (omega arith)
 
+-- An AREA reply's width and height are the area then in force: "An accepted AREA line sets the area for the lines below it."
 pub set-in-force : (clerk : Clerk) (line : List ℕ) (w h : ℕ) (rest : List ℕ) → spec.reply clerk line ≡ spec.says spec.Area-set (w ∷ h ∷ rest)
     → spec.after clerk line ≡ InForce (record { w = w; h = h })
 unfolding spec.reply spec.after

@@ -1,3 +1,4 @@
 pub mod Handling
 pub mod Areas
+pub mod Answered
 pub mod Promises

@@ -1,6 +1,6 @@
 -- Order lines worked by hand, as one table under one claim, which computes: those that document 01 gives under "Order lines", "Squares worked by hand" and
--- "Errors a good programmer makes here", and for each of its sentences on lines some of our own. What a CELL or a NUMBER says is worked in the division's
--- tables; here stand refusals, by their numbers and in their order, and the area in force after each line.
+-- "Errors a good programmer makes here", and for each of its sentences on lines some of our own. Here stand refusals, by
+-- their numbers and in their order, and the area in force after each line; what an answered line says is the call's own (`cell-replied`, `number-replied`).
 use mathlib.Core.Bool.{Bool, true, false, _&&_}
 use mathlib.Core.List.{List, [], _∷_, _++_}
 use Prim.Native.Nat.{ℕ, _+_}
@@ -27,7 +27,7 @@ pub data Case : Type 0 where
   clears : String → (refusal : ℕ) → Case
   -- whatever is in force, a line sets w by h, and its reply is AREA with these numbers
   sets : String → (w h squares x y : ℕ) → Case
-  -- under 3 by 4 a line of bytes that are too many to write out is refused so, and leaves that area, or none
+  -- under 3 by 4 a line of bytes, too many or too odd to write out, is refused so, and leaves that area, or none
   long-stays : List ℕ → (refusal : ℕ) → Case
   long-clears : List ℕ → (refusal : ℕ) → Case
 
@@ -98,6 +98,7 @@ worked =
     ∷ clears "AREA 3 " 6
     ∷ clears "AREA 3 4 5" 6
     ∷ clears "AREA  3 4" 6
+    ∷ clears "AREA  4" 6
     ∷ clears "AREAX 3 4" 6
     ∷ clears "AREA\t3 4" 6
     ∷ long-clears (bytes "AREA 3 4" ++ replicate 57 32) 8
@@ -106,7 +107,7 @@ worked =
     ∷ stays " AREA 3 4" 6
     ∷ stays "ARE" 6
     ∷ stays "AREB 3 4" 6
-    -- the numbers of the example and of "A number is 1 to 10 digits": refusal 5, and 3 for a number that the area has not
+    -- the numbers of the example and of "A number is 1 to 10 digits": refusal 5; and 3 and 2 for a number or a square that the area does not have
     ∷ stays "N 3E4" 5
     ∷ stays "N +7" 5
     ∷ stays "N -7" 5
@@ -142,6 +143,8 @@ worked =
     ∷ stays "N\t3" 6
     ∷ stays "N\r" 6
     ∷ stays "S 1" 6
+    ∷ stays "S  1" 6
+    ∷ stays "S 1 " 6
     ∷ stays "S 1 2 3" 6
     ∷ stays "S x " 6
     ∷ stays "s 1 2" 6
@@ -150,9 +153,14 @@ worked =
     ∷ long-stays (bytes "N " ++ replicate 62 55) 5
     ∷ long-stays (bytes "N " ++ replicate 63 55) 8
     ∷ long-stays (replicate 64 88) 6
+    -- bytes 0 and over 127 are ordinary bytes
+    ∷ long-stays (bytes "N " ++ (200 ∷ [])) 5
+    ∷ long-stays (bytes "N " ++ (0 ∷ [])) 5
+    ∷ long-stays (bytes "N" ++ (0 ∷ 51 ∷ [])) 6
     ∷ long-stays (replicate 65 88) 8
     -- "N or S line with no area in force": 7, after 6 and 5 and before the library's own
     ∷ with-none "N 0" 7
+    ∷ with-none "N 1" 7
     ∷ with-none "N 99999" 7
     ∷ with-none "S 1 1" 7
     ∷ with-none "N x" 5

@@ -145,7 +145,7 @@ last-square w h x y lw lh e =
     let is : w * h - 1 ≡ number-of (whole w h) (square x y) = omega arith in
     ap (square-of (whole w h)) is ∙ square-of-number w h (whole w h) (whole-inside w h lw lh) (square x y) (whole-holds w h (square x y) (ends-within w h x y lh e))
 
--- Every area ends in one of the ways; so the finish square (w - 1, 0) is the last but for the first two of them.
+-- Every area ends in one of the ways; so the finish square (w - 1, 0) is the last but for the first two of them, 1 by 1 aside.
 pub ends : (w h : ℕ) → 1 ≤ w → 1 ≤ h → (x : ℕ) × (y : ℕ) × Ends w h x y
 ends w h lw lh = by (eqb w 1) (eqb h 2) (eqb (w % 2) 1) refl refl refl
   where

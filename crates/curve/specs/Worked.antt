@@ -1,12 +1,13 @@
 -- Calls worked by hand, as one table under one claim, which computes: document 01, "Refusal numbers", with the order of the refusals and "the number, all else
--- 0", its cases "65,536 by 1 and 0 by 5: refusal 1", and the finish square. What an answered lookup says is worked in the division's tables.
+-- 0", its cases "65,536 by 1 and 0 by 5: refusal 1", and the finish square. The squares, numbers and counts of answered lookups are worked in the
+-- division's tables.
 use mathlib.Core.Bool.{Bool, true, _&&_}
 use mathlib.Core.List.{List, [], _∷_}
 use Prim.Native.Nat.{ℕ}
 use lib.Dec.{T}
 use Rattle.terms.specs.Terms.{accepted}
 use Rattle.terms.specs.Comparing.{same-numbers, same-figures}
-use Rattle.curve.specs.Lookups.{number-to-square, square-to-number, finish-square}
+use Rattle.curve.specs.Lookups.{unless-deep, number-to-square, square-to-number, finish-square}
 
 -- A line of the table, of a w by h area.
 pub data Case : Type 0 where
@@ -16,12 +17,17 @@ pub data Case : Type 0 where
   finish-refused : (w h refusal : ℕ) → Case
   -- the finish square is (x, y)
   finishes-at : (w h x y : ℕ) → Case
+  -- a lookup whose square so many blocks hold is answered, or refused so
+  deep-answered : (blocks : ℕ) → Case
+  deep-refused : (blocks refusal : ℕ) → Case
 
 right : Case → Bool
 right (number-refused w h number r) = same-figures (number-to-square w h number) r (0 ∷ 0 ∷ 0 ∷ [])
 right (square-refused w h x y r) = same-figures (square-to-number w h x y) r (0 ∷ 0 ∷ [])
 right (finish-refused w h r) = same-figures (finish-square w h) r (0 ∷ 0 ∷ [])
 right (finishes-at w h x y) = same-figures (finish-square w h) 0 (x ∷ y ∷ [])
+right (deep-answered blocks) = same-figures (unless-deep blocks (7 ∷ blocks ∷ []) 2) 0 (7 ∷ blocks ∷ [])
+right (deep-refused blocks r) = same-figures (unless-deep blocks (7 ∷ blocks ∷ []) 2) r (0 ∷ 0 ∷ [])
 
 pub all-right : List Case → Bool
 all-right [] = true
@@ -60,6 +66,10 @@ worked =
     ∷ finishes-at 1 5 0 0
     ∷ finishes-at 5 2 4 0
     ∷ finishes-at 65535 65535 65534 0
+    -- "a descent would open a 65th block"
+    ∷ deep-answered 1
+    ∷ deep-answered 64
+    ∷ deep-refused 65 9
     ∷ []
 
 pub worked-right : T (all-right worked)

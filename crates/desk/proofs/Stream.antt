@@ -203,7 +203,7 @@ whole-printed {kept} room run = printed-due run (in-order-is at-first kept (omeg
 pub however-cut : {kept kept′ input one other : List ℕ} → 65 ≤ length kept → 65 ≤ length kept′ → Printed at-first kept input one → Printed at-first kept′ input other → one ≡ other
 however-cut room room′ run run′ = whole-printed room run ∙ sym (whole-printed room′ run′)
 
--- Every input has a run, so that the words above never speak of nothing: byte by byte, into an output of any size that has room for the longest text.
+-- Every input has a run, so that the theorems above are about something: byte by byte, into an output of any size that has room for the longest text.
 module _ (size : ℕ) (room : longest ≤ size) where
   one-taken : (d : Desk) (kept : List ℕ) → in-order d kept ≡ true → (b : ℕ) → fed-any d kept 0 size (b ∷ []) .taken ≡ 1
   unfolding fed

@@ -13,23 +13,43 @@ use Rattle.terms.specs.Terms.{Figures, answered}
 use Rattle.terms.proofs.Laws.{limits, value}
 use Rattle.curve.specs.Lookups.{number-to-square, square-to-number}
 use Rattle.curve.proofs.Promises.{number-answered, number-asked, square-back}
-use Rattle.tables.specs.Tables.{by-number, by-square, due-by, fill}
-use Rattle.tables.proofs.Promises.{number-holds, kinds-inverse, fills-nothing}
+use Rattle.tables.specs.Tables.{by-number, by-square, due-by, unless-refused, fill}
+use Rattle.tables.proofs.Promises.{number-holds, kinds-inverse, that-length-filled, filled-so, fills-nothing}
+use Rattle.clerk.specs.declared.Clerk.{Clerk}
+use Rattle.clerk.specs.Clerk.{Refused, reply}
 use Rattle.exports.specs.Boundary.{returned, written, filled}
+use Rattle.exports.specs.Handling.{shown, handled-by}
 
--- Demand 2: "filled tables hold what the lookups say".
-pub by-number-holds : (w h i x y k : ℕ) → number-to-square w h i ≡ answered (x ∷ y ∷ k ∷ []) → getD (by-number w h) i 0 ≡ y * w + x
-by-number-holds w h i x y k e =
+-- Demand 2: "filled tables hold what the lookups say". Of the lists that are due:
+by-number-due : (w h i x y k : ℕ) → number-to-square w h i ≡ answered (x ∷ y ∷ k ∷ []) → getD (by-number w h) i 0 ≡ y * w + x
+by-number-due w h i x y k e =
     let was = number-asked w h i (x ∷ y ∷ k ∷ []) e in
     let is = sym (number-answered w h (was .0) i (was .1)) ∙ e in
     number-holds w h i (was .1) ∙ ap₂ (λ b a. b * w + a) (ap (value 1) is) (ap (value 0) is)
 
-pub by-square-holds : (w h x y n k : ℕ) → square-to-number w h x y ≡ answered (n ∷ k ∷ []) → getD (by-square w h) (y * w + x) 0 ≡ n
-by-square-holds w h x y n k e =
+by-square-due : (w h x y n k : ℕ) → square-to-number w h x y ≡ answered (n ∷ k ∷ []) → getD (by-square w h) (y * w + x) 0 ≡ n
+by-square-due w h x y n k e =
     let back = square-back w h x y n k e in
     let was = number-asked w h n (x ∷ y ∷ k ∷ []) back in
     let all = limits w h (was .0) in
-    ap (λ p. getD (by-square w h) p 0) (sym (by-number-holds w h n x y k back)) ∙ kinds-inverse w h (all .w-least) (all .h-least) n (was .1) .0
+    ap (λ p. getD (by-square w h) p 0) (sym (by-number-due w h n x y k back)) ∙ kinds-inverse w h (all .w-least) (all .h-least) n (was .1) .0
+
+-- and of any table of w·h places as a fill leaves it.
+module _ (w h : ℕ) (t : List ℕ) (size : length t ≡ w * h) where
+  pub by-number-holds : (i x y k : ℕ) → number-to-square w h i ≡ answered (x ∷ y ∷ k ∷ []) → getD (unless-refused (fill w h t) (by-number w h) t) i 0 ≡ y * w + x
+  by-number-holds i x y k e =
+      let ok = number-asked w h i (x ∷ y ∷ k ∷ []) e .0 in
+      ap (λ ds. getD ds i 0) (filled-so w h t (by-number w h) (that-length-filled w h t ok size)) ∙ by-number-due w h i x y k e
+
+  pub by-square-holds : (x y n k : ℕ) → square-to-number w h x y ≡ answered (n ∷ k ∷ [])
+      → getD (unless-refused (fill w h t) (by-square w h) t) (y * w + x) 0 ≡ n
+  by-square-holds x y n k e =
+      let ok = number-asked w h n (x ∷ y ∷ k ∷ []) (square-back w h x y n k e) .0 in
+      ap (λ ds. getD ds (y * w + x) 0) (filled-so w h t (by-square w h) (that-length-filled w h t ok size)) ∙ by-square-due w h x y n k e
+
+-- "the number, all else 0", of a line: behind the area in force stand zeros where the line is refused.
+pub refused-rest-0 : (clerk : Clerk) (line : List ℕ) → reply clerk line .word ≡ Refused → drop 2 (handled-by clerk line .values) ≡ replicate 4 0
+refused-rest-0 clerk line e = ap (λ word. shown word (reply clerk line .numbers)) e
 
 module _ (n : ℕ) (f : Figures) where
   -- a slice of n places that holds one value

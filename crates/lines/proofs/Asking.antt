@@ -1,14 +1,15 @@
 -- What a line asks, seen from its bytes: the line that a word and numbers in decimal spell asks with that word for those numbers, and no other line does.
--- The fields of a line with spaces between them are the line, and each number has one text.
+-- A line of a known shape with a field that is no number is refusal 5, and one of no known shape 6. The fields of a line with spaces between them are the
+-- line, and each number has one text.
 use mathlib.Core.Bool.{Bool, true, false, not, cond, _&&_, _||_, and-eq-true-iff}
 use mathlib.Core.List.{List, [], _∷_, _++_}
-use mathlib.Core.Path.{_≡_, refl, sym, ap, ap₂, subst⁻¹, _∙_}
+use mathlib.Core.Path.{_≡_, refl, sym, ap, ap₂, subst, subst⁻¹, _∙_}
 use Prim.Native.Nat.{ℕ, _≤_}
 use native.Mathlib.Omega.{arith}
 use borrow.Author.Tests.{leb-true, le-leb, ne-eqb, eqb-true}
 use lib.Dec.{leb, eqb, lit≤}
 use lib.ListN.{length, length-append}
-use Rattle.terms.specs.declared.Refusal.the-variants.{WrongShape, LongLine}
+use Rattle.terms.specs.declared.Refusal.the-variants.{NotANumber, WrongShape, LongLine}
 use Rattle.lines.specs.declared.Numeral.{Numeral}
 use Rattle.lines.specs.declared.Numeral.the-variants.{Value, NoNumber}
 use Rattle.lines.specs.declared.Request.{Request}
@@ -27,8 +28,8 @@ with-one known n = known ++ (32 ∷ decimal n)
 abbrev pub with-two : List ℕ → ℕ → ℕ → List ℕ
 with-two known n m = known ++ (32 ∷ (decimal n ++ (32 ∷ decimal m)))
 
--- the fields of a line, with a space between each two
-between : List (List ℕ) → List ℕ
+-- Fields with a space between each two.
+unfoldable pub between : List (List ℕ) → List ℕ
 between [] = []
 between (f ∷ []) = f
 between (f ∷ g ∷ fs) = f ++ (32 ∷ between (g ∷ fs))
@@ -39,7 +40,7 @@ before-first b [] = refl
 before-first b (f ∷ []) = refl
 before-first b (f ∷ g ∷ fs) = refl
 
--- are the line
+-- so put together, the fields of a line are the line
 between-fields : (s : List ℕ) → between (fields s) ≡ s
 unfolding fields between
 between-fields [] = refl
@@ -108,8 +109,8 @@ says-so line = by (leb (length line) 64)
         (shape-says line (word line) (rest line) (sym (between-fields line) ∙ ap between (fields-are line)))
     by false = tt
 
--- bytes none of which is a space, as a word's and a number's
-unfoldable spaceless : List ℕ → Bool
+-- Bytes none of which is a space, as a word's and a number's.
+unfoldable pub spaceless : List ℕ → Bool
 spaceless [] = true
 spaceless (b ∷ bs) = not (eqb b 32) && spaceless bs
 
@@ -139,53 +140,178 @@ unfolding fields spaceless
 field-last [] e = refl
 field-last (b ∷ f) e = let both = no-space b (spaceless f) e in rw (both .0) (ap (onto b) (field-last f (both .1)))
 
--- a number in decimal is such a field
-module _ (n : ℕ) (most : n ≤ 4294967295) where
-  decimal-spaceless : spaceless (decimal n) ≡ true
-  decimal-spaceless = digits-spaceless (decimal n) (reads (decimal n) n (read-back n most) .digits)
+-- A field that can hold a number: some bytes, and no space.
+pub record Filled (f : List ℕ) : Type 0 where
+  pub some : 1 ≤ length f
+  pub whole : spaceless f ≡ true
 
-  decimal-some : is-empty (decimal n) ≡ false
-  decimal-some = by (decimal n) (reads (decimal n) n (read-back n most) .some)
-    where
-      by : (f : List ℕ) → 1 ≤ length f → is-empty f ≡ false
-      by [] l = absurd (omega arith)
-      by (b ∷ f) l = refl
+filled-some : (f : List ℕ) → 1 ≤ length f → is-empty f ≡ false
+filled-some [] l = absurd (omega arith)
+filled-some (b ∷ f) l = refl
 
-  decimal-last : fields (decimal n) ≡ decimal n ∷ []
-  decimal-last = field-last (decimal n) decimal-spaceless
-
--- what is asked by a word of at most four bytes, as all words are, and the fields behind it
-module _ (known : List ℕ) (whole : spaceless known ≡ true) (short : length known ≤ 4) (n : ℕ) (most : n ≤ 4294967295) where
-  one-spelt : request (with-one known n) ≡ two-fields known (decimal n)
+-- a word and one field, or two, that are filled, within 64 bytes
+module _ (known : List ℕ) (word-whole : spaceless known ≡ true) (f : List ℕ) (filled : Filled f) where
+  one-read : length (known ++ (32 ∷ f)) ≤ 64 → request (known ++ (32 ∷ f)) ≡ two-fields known f
   unfolding request shaped
-  one-spelt =
-      let few = ten-digits n (omega arith) in
-      let size = length-append known (32 ∷ decimal n) in
-      rw (le-leb (length (with-one known n)) 64 (omega arith))
-      (ap shaped (field-first known (decimal n) whole ∙ ap (λ fs. known ∷ fs) (decimal-last n most)))
+  one-read l =
+      rw (le-leb (length (known ++ (32 ∷ f))) 64 l)
+      (ap shaped (field-first known f word-whole ∙ ap (λ fs. known ∷ fs) (field-last f (filled .whole))))
 
-  two-spelt : (m : ℕ) → m ≤ 4294967295 → request (with-two known n m) ≡ three-fields known (decimal n) (decimal m)
+  two-read : (g : List ℕ) → Filled g → length (known ++ (32 ∷ (f ++ (32 ∷ g)))) ≤ 64 → request (known ++ (32 ∷ (f ++ (32 ∷ g)))) ≡ three-fields known f g
   unfolding request shaped
-  two-spelt m most′ =
-      let few = ten-digits n (omega arith) in
-      let few′ = ten-digits m (omega arith) in
-      let size = length-append known (32 ∷ (decimal n ++ (32 ∷ decimal m))) in
-      let size′ = length-append (decimal n) (32 ∷ decimal m) in
-      rw (le-leb (length (with-two known n m)) 64 (omega arith))
+  two-read g filled′ l =
+      rw (le-leb (length (known ++ (32 ∷ (f ++ (32 ∷ g))))) 64 l)
       (ap shaped
-      (field-first known (decimal n ++ (32 ∷ decimal m)) whole
-      ∙ ap (λ fs. known ∷ fs) (field-first (decimal n) (decimal m) (decimal-spaceless n most) ∙ ap (λ fs. decimal n ∷ fs) (decimal-last m most′))))
+      (field-first known (f ++ (32 ∷ g)) word-whole
+      ∙ ap (λ fs. known ∷ fs) (field-first f g (filled .whole) ∙ ap (λ fs. f ∷ fs) (field-last g (filled′ .whole)))))
+
+-- What a line of a known shape asks: for its numbers, and refusal 5 where one of its fields is no number.
+abbrev pub Asked-one : (ℕ → Request) → (f : List ℕ) → Request → Type 0
+Asked-one asked f q = ((i : ℕ) → numeral f ≡ Value i → q ≡ asked i) × (numeral f ≡ NoNumber → q ≡ Refused NotANumber)
+
+abbrev pub Asked-two : (ℕ → ℕ → Request) → (f g : List ℕ) → Request → Type 0
+Asked-two asked f g q =
+    ((x y : ℕ) → numeral f ≡ Value x → numeral g ≡ Value y → q ≡ asked x y)
+    × (numeral f ≡ NoNumber → q ≡ Refused NotANumber)
+    × (numeral g ≡ NoNumber → q ≡ Refused NotANumber)
+
+no-second : (asked : ℕ → ℕ → Request) (m : Numeral) → by-two asked m NoNumber ≡ Refused NotANumber
+no-second asked (Value x) = refl
+no-second asked NoNumber = refl
+
+two-by : (asked : ℕ → ℕ → Request) (f g : List ℕ) → Filled f → Filled g → {q : Request} → q ≡ of-two asked f g → Asked-two asked f g q
+two-by asked f g filled filled′ {q = asks} e =
+    let there : of-two asked f g ≡ by-two asked (numeral f) (numeral g) = rw (filled-some f (filled .some), filled-some g (filled′ .some)) refl in
+    let is : asks ≡ by-two asked (numeral f) (numeral g) = e ∙ there in (
+      λ x y p q. is ∙ ap₂ (by-two asked) p q,
+      λ p. is ∙ ap (λ m. by-two asked m (numeral g)) p,
+      λ q. is ∙ ap (by-two asked (numeral f)) q ∙ no-second asked (numeral f),
+    )
+
+pub number-line : (f : List ℕ) → Filled f → length (N ++ (32 ∷ f)) ≤ 64 → Asked-one AskNumber f (request (N ++ (32 ∷ f)))
+unfolding same-bytes spaceless
+number-line f filled l =
+    let there : two-fields N f ≡ by-one AskNumber (numeral f) = rw (filled-some f (filled .some)) refl in
+    let is : request (N ++ (32 ∷ f)) ≡ by-one AskNumber (numeral f) = one-read N refl f filled l ∙ there in
+    (λ i e. is ∙ ap (by-one AskNumber) e, λ e. is ∙ ap (by-one AskNumber) e)
+
+pub area-line : (f g : List ℕ) → Filled f → Filled g → length (AREA ++ (32 ∷ (f ++ (32 ∷ g)))) ≤ 64
+    → Asked-two SetArea f g (request (AREA ++ (32 ∷ (f ++ (32 ∷ g)))))
+unfolding same-bytes spaceless
+area-line f g filled filled′ l = two-by SetArea f g filled filled′ (two-read AREA refl f filled g filled′ l)
+
+pub square-line : (f g : List ℕ) → Filled f → Filled g → length (S ++ (32 ∷ (f ++ (32 ∷ g)))) ≤ 64
+    → Asked-two AskSquare f g (request (S ++ (32 ∷ (f ++ (32 ∷ g)))))
+unfolding same-bytes spaceless
+square-line f g filled filled′ l = two-by AskSquare f g filled filled′ (two-read S refl f filled g filled′ l)
+
+-- A line of one of the three shapes: "AREA w h, N i, S x y", with one space before each field.
+pub data Shaped (line : List ℕ) : Type 0 where
+  n-shaped : (f : List ℕ) → Filled f → line ≡ N ++ (32 ∷ f) → Shaped line
+  area-shaped : (f g : List ℕ) → Filled f → Filled g → line ≡ AREA ++ (32 ∷ (f ++ (32 ∷ g))) → Shaped line
+  s-shaped : (f g : List ℕ) → Filled f → Filled g → line ≡ S ++ (32 ∷ (f ++ (32 ∷ g))) → Shaped line
+
+-- the fields of a line hold no space
+abbrev Spaceless : List (List ℕ) → Type 0
+Spaceless [] = Unit {0}
+Spaceless (f ∷ fs) = (spaceless f ≡ true) × Spaceless fs
+
+onto-spaceless : (b : ℕ) (fs : List (List ℕ)) → eqb b 32 ≡ false → Spaceless fs → Spaceless (onto b fs)
+unfolding spaceless
+onto-spaceless b [] e all = (rw e refl, tt)
+onto-spaceless b (f ∷ fs) e all = (rw e (all .0), all .1)
+
+fields-spaceless : (s : List ℕ) → Spaceless (fields s)
+unfolding fields spaceless
+fields-spaceless [] = (refl, tt)
+fields-spaceless (b ∷ s) = by (eqb b 32) refl (fields-spaceless s)
+  where
+    by : (t : Bool) → eqb b 32 ≡ t → Spaceless (fields s) → Spaceless (cond t ([] ∷ fields s) (onto b (fields s)))
+    by true e all = (refl, all)
+    by false e all = onto-spaceless b (fields s) e all
+
+empty-not : (f : List ℕ) → is-empty f ≡ false → 1 ≤ length f
+empty-not [] e = absurd (let z : _≡_ {A = ℕ} 0 1 = cc in omega arith)
+empty-not (b ∷ f) e = omega arith
+
+both-not : (s t : Bool) → (s || t) ≡ false → (s ≡ false) × (t ≡ false)
+both-not false t e = (refl, e)
+both-not true t e = absurd (let z : _≡_ {A = ℕ} 0 1 = cc in omega arith)
+
+-- so a line of no known shape is refusal 6, by how many fields it has
+module _ (line first : List ℕ) (unshaped : Shaped line → ⊥) where
+  no-one : (a : List ℕ) → spaceless a ≡ true → line ≡ first ++ (32 ∷ a) → two-fields first a ≡ Refused WrongShape
+  no-one a whole is = by (same-bytes first N) (is-empty a) refl refl
+    where
+      by : (known none : Bool) → same-bytes first N ≡ known → is-empty a ≡ none
+          → cond known (cond none (Refused WrongShape) (by-one AskNumber (numeral a))) (Refused WrongShape) ≡ Refused WrongShape
+      by false none e f = refl
+      by true true e f = refl
+      by true false e f =
+          absurd (unshaped (n-shaped a (record { some = empty-not a f; whole = whole }) (is ∙ ap (λ w. w ++ (32 ∷ a)) (same-true first N e))))
+
+  module _ (a b : List ℕ) (whole : spaceless a ≡ true) (whole′ : spaceless b ≡ true) (is : line ≡ first ++ (32 ∷ (a ++ (32 ∷ b)))) where
+    an-empty : (asked : ℕ → ℕ → Request) → (Filled a → Filled b → ⊥) → of-two asked a b ≡ Refused WrongShape
+    an-empty asked not-both = by (is-empty a || is-empty b) refl
+      where
+        by : (none : Bool) → (is-empty a || is-empty b) ≡ none → cond none (Refused WrongShape) (by-two asked (numeral a) (numeral b)) ≡ Refused WrongShape
+        by true e = refl
+        by false e =
+            let each = both-not (is-empty a) (is-empty b) e in
+            absurd (not-both (record { some = empty-not a (each .0); whole = whole }) (record { some = empty-not b (each .1); whole = whole′ }))
+
+    said : (known : List ℕ) → same-bytes first known ≡ true → line ≡ known ++ (32 ∷ (a ++ (32 ∷ b)))
+    said known e = is ∙ ap (λ w. w ++ (32 ∷ (a ++ (32 ∷ b)))) (same-true first known e)
+
+    no-two : three-fields first a b ≡ Refused WrongShape
+    no-two = by (same-bytes first AREA) (same-bytes first S) refl refl
+      where
+        by : (t u : Bool) → same-bytes first AREA ≡ t → same-bytes first S ≡ u
+            → cond t (of-two SetArea a b) (cond u (of-two AskSquare a b) (Refused WrongShape)) ≡ Refused WrongShape
+        by true u e f = an-empty SetArea (λ p q. unshaped (area-shaped a b p q (said AREA e)))
+        by false true e f = an-empty AskSquare (λ p q. unshaped (s-shaped a b p q (said S f)))
+        by false false e f = refl
+
+  no-shape : (others : List (List ℕ)) → Spaceless others → line ≡ between (first ∷ others) → shaped (first ∷ others) ≡ Refused WrongShape
+  unfolding shaped between
+  no-shape [] all is = refl
+  no-shape (a ∷ []) all is = no-one a (all .0) is
+  no-shape (a ∷ b ∷ []) all is = no-two a b (all .0) (all .1 .0) is
+  no-shape (a ∷ b ∷ c ∷ others) all is = refl
+
+-- "An unknown first word, a missing, extra or empty field, or an empty line is refusal 6": any line of up to 64 bytes that has none of the three shapes.
+pub unshaped-line : (line : List ℕ) → length line ≤ 64 → (Shaped line → ⊥) → request line ≡ Refused WrongShape
+unfolding request
+unshaped-line line l unshaped =
+    let all = subst Spaceless (fields-are line) (fields-spaceless line) in
+    rw (le-leb (length line) 64 l)
+    (ap shaped (fields-are line)
+    ∙ no-shape line (word line) unshaped (rest line) (all .1) (sym (between-fields line) ∙ ap between (fields-are line)))
 
 -- `N i`, `AREA w h` and `S x y`, spelt, ask for these numbers.
-pub number-spelt : (i : ℕ) → i ≤ 4294967295 → request (with-one N i) ≡ AskNumber i
-unfolding same-bytes spaceless
-number-spelt i l = one-spelt N refl (lit≤ tt) i l ∙ rw (decimal-some i l, read-back i l) refl
+module _ (n : ℕ) (most : n ≤ 4294967295) where
+  decimal-filled : Filled (decimal n)
+  decimal-filled =
+      let r = reads (decimal n) n (read-back n most) in
+      record { some = r .some; whole = digits-spaceless (decimal n) (r .digits) }
+
+  pub number-spelt : request (with-one N n) ≡ AskNumber n
+  number-spelt = number-line (decimal n) decimal-filled (let few = ten-digits n (omega arith) in omega arith) .0 n (read-back n most)
 
 module _ (n m : ℕ) (most : n ≤ 4294967295) (most′ : m ≤ 4294967295) where
+  few : length (decimal n ++ (32 ∷ decimal m)) ≤ 21
+  few =
+      let one = ten-digits n (omega arith) in
+      let other = ten-digits m (omega arith) in
+      let size = length-append (decimal n) (32 ∷ decimal m) in
+      omega arith
+
   pub area-spelt : request (with-two AREA n m) ≡ SetArea n m
-  unfolding same-bytes spaceless
-  area-spelt = two-spelt AREA refl (lit≤ tt) n most m most′ ∙ rw (decimal-some n most, decimal-some m most′, read-back n most, read-back m most′) refl
+  area-spelt =
+      let room = few in
+      area-line (decimal n) (decimal m) (decimal-filled n most) (decimal-filled m most′) (omega arith) .0 n m (read-back n most) (read-back m most′)
 
   pub square-spelt : request (with-two S n m) ≡ AskSquare n m
-  unfolding same-bytes spaceless
-  square-spelt = two-spelt S refl (lit≤ tt) n most m most′ ∙ rw (decimal-some n most, decimal-some m most′, read-back n most, read-back m most′) refl
+  square-spelt =
+      let room = few in
+      square-line (decimal n) (decimal m) (decimal-filled n most) (decimal-filled m most′) (omega arith) .0 n m (read-back n most) (read-back m most′)

@@ -1,5 +1,5 @@
 -- A number in decimal is read back as itself, and nothing else is read so. One digit more on the right makes ten times the value and the digit, whether it
--- is printed or read: so both go by induction over the digits, with no powers but for the count of them.
+-- is printed or read: so both go by induction over the digits; powers are needed only to count them.
 use mathlib.Core.Bool.{Bool, true, false, not, cond, _&&_, and-eq-true-iff}
 use mathlib.Core.List.{List, [], _∷_, _++_, append-nil, append-assoc}
 use mathlib.Core.Path.{_≡_, refl, sym, ap, ap₂, _∙_}

@@ -1,16 +1,44 @@
--- What the promises come to: two results that meet one are one. And what they turn away: each wrong program is met by a buffer in which it would have to
--- leave two things at once.
+-- What the promises come to: a reply's text is its line's number, its word and its numbers, in decimal and with a space between each two; and two results that
+-- meet a promise are one. And what they turn away: each wrong program is met by a buffer in which it would have to leave two things at once.
 use mathlib.Core.Bool.{true}
-use mathlib.Core.List.{List, [], _∷_}
-use mathlib.Core.Path.{_≡_, sym, ap, _∙_}
+use mathlib.Core.List.{List, [], _∷_, _++_, map, append-nil, append-assoc}
+use mathlib.Core.Path.{_≡_, refl, sym, ap, _∙_}
 use Prim.Native.Nat.{ℕ, _+_}
 use native.Mathlib.Omega.{arith}
 use lib.Dec.{leb}
 use lib.ListN.{replicate}
 use Rattle.terms.proofs.Laws.{bit}
-use Rattle.clerk.specs.Clerk.{says, Refused}
+use Rattle.lines.specs.Letters.{bytes}
+use Rattle.lines.proofs.Asking.{between}
+use Rattle.clerk.specs.Clerk.{Word, Area-set, Cell, Number, Refused, Said, says}
 use Rattle.lines.specs.Decimal.{decimal-by, decimal}
-use Rattle.replies.specs.Text.{text, stop, longest, Writes, if-room}
+use Rattle.replies.specs.Text.{all-spaced, spaced-word, text, stop, longest, Writes, if-room}
+
+-- "prints for each line its number from 1, a space, and one of: AREA w h n fx fy; CELL x y k; NUMBER i k; REFUSED r", and a newline.
+abbrev pub printed-word : Word → List ℕ
+printed-word Area-set = bytes "AREA"
+printed-word Cell = bytes "CELL"
+printed-word Number = bytes "NUMBER"
+printed-word Refused = bytes "REFUSED"
+
+numbers-spaced : (first : List ℕ) (ns : List ℕ) → between (first ∷ map decimal ns) ≡ first ++ all-spaced ns
+unfolding between
+numbers-spaced first [] = sym (append-nil first)
+numbers-spaced first (n ∷ ns) = ap (λ t. first ++ (32 ∷ t)) (numbers-spaced (decimal n) ns)
+
+word-spaced : (w : Word) → spaced-word w ≡ 32 ∷ printed-word w
+word-spaced Area-set = refl
+word-spaced Cell = refl
+word-spaced Number = refl
+word-spaced Refused = refl
+
+pub text-is : (line : ℕ) (s : Said) → text line s ≡ between (decimal line ∷ printed-word (s .word) ∷ map decimal (s .numbers)) ++ bytes "\n"
+unfolding text between
+text-is line s =
+    let said = numbers-spaced (printed-word (s .word)) (s .numbers) in
+    ap (λ w. decimal line ++ ((w ++ all-spaced (s .numbers)) ++ (10 ∷ []))) (word-spaced (s .word))
+    ∙ ap (λ t. decimal line ++ ((32 ∷ t) ++ (10 ∷ []))) (sym said)
+    ∙ sym (append-assoc (decimal line) (32 ∷ between (printed-word (s .word) ∷ map decimal (s .numbers))) (10 ∷ []))
 
 -- Two results that meet the promise of `write_reply`, of `write_stop` or of a call that writes as they do are one.
 pub writes-one : {before bytes one other : List ℕ} {at end end′ : ℕ} → Writes before at bytes one end → Writes before at bytes other end′

@@ -6,7 +6,7 @@ use mathlib.Core.Path.{_≡_, refl, sym, ap, ap₂, subst⁻¹, _∙_}
 use Prim.Native.Nat.{ℕ, zero, suc, _+_, _-_, _*_, _/_, _%_, _≤_, _<_}
 use native.Mathlib.Nat.{zero-add}
 use native.Mathlib.Omega.{arith}
-use borrow.Author.Tests.{eqb-true, eqb-false, ne-eqb}
+use borrow.Author.Tests.{eqb-true, eqb-false, eq-eqb, ne-eqb}
 use lib.Dec.{eqb, lit≤, lit<}
 use lib.ListN.{length, getD}
 use Rattle.division.specs.Division.Small.{blocks-two}
@@ -135,6 +135,11 @@ module _ (w h : ℕ) (t : List ℕ) where
   other-length-refused ds ok other =
       (sym (length-refused w h t 1 (answered (length (blocks (whole w h)) ∷ [])) ok other), sym (length-refused w h t 3 (answered (judged 0 ds t)) ok other))
 
+  -- and a table of that length is filled
+  pub that-length-filled : accepted w h ≡ true → length t ≡ w * h → fill w h t .refusal ≡ 0
+  unfolding fill
+  that-length-filled ok size = ap (λ f. f .refusal) (taken w h t 1 (answered (length (blocks (whole w h)) ∷ [])) ok size)
+
   pub fill-asked : fill w h t .refusal ≡ 0 → (accepted w h ≡ true) × (length t ≡ w * h)
   unfolding fill
   fill-asked = asked-by w h t 1 (answered (length (blocks (whole w h)) ∷ [])) (accepted w h) (eqb (length t) (w * h)) refl refl
@@ -153,6 +158,11 @@ module _ (w h : ℕ) (t : List ℕ) where
       let is = all-blocks-reported n e in
       let few = few-blocks (whole w h) (whole-inside w h (all .w-least) (all .h-least) .sized) in
       omega arith
+
+  -- What an answered fill leaves is the table of its kind, whole.
+  pub filled-so : (ds : List ℕ) → fill w h t .refusal ≡ 0 → unless-refused (fill w h t) ds t ≡ ds
+  unfolding unless-refused
+  filled-so ds answer = rw (eq-eqb (fill w h t .refusal) 0 answer)
 
   -- Demand 1: a refused table is unaltered.
   pub refused-unaltered : (ds : List ℕ) → (fill w h t .refusal ≡ 0 → ⊥) → unless-refused (fill w h t) ds t ≡ t

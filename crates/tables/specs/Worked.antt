@@ -1,5 +1,5 @@
 -- Calls on tables worked by hand, as one table under one claim, which computes: document 01, "3 by 4, table of 11 or 13 places: refusal 4", and that refusal 1
--- comes first. What an answered fill leaves is worked in the division's tables.
+-- comes first. What an answered fill leaves is said by `filled-so` and `number-holds`.
 use mathlib.Core.Bool.{Bool, true, _&&_}
 use mathlib.Core.List.{List, [], _∷_}
 use Prim.Native.Nat.{ℕ}

@@ -44,7 +44,7 @@ pub fn accepts(area: Area) -> bool
     false
 }
 
-// The number that a refusal has on the crew card.
+// The number of a refusal.
 pub fn refusal_number(r: Refusal) -> u32
     ensures { λ n. ⌜ n ≡ refusal-number r ⌝ }
 {

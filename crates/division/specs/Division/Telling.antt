@@ -1,7 +1,8 @@
 -- Cases of our own, in the form of Worked.antt's and under one claim, which computes as that one does. They tell document 01's rules from rules that
 -- come close to them and that the worked cases let pass. The values are those of the independent program in tests/, and tests/telling.rs compares them.
--- What the two tables pin, for lengths up to 12, is "2a > 3b: the long cut. Otherwise: the U cut.", "The even half of a length L is L div 2, and one more
--- if L > 2 and L div 2 is odd.", "m = a div 2 (never made even)", and of A that it "runs in the block's side direction".
+-- The two tables tell "2a > 3b: the long cut. Otherwise: the U cut." from other rules of the form pa > qb + r, and pin for lengths up to 12 "The even half
+-- of a length L is L div 2, and one more if L > 2 and L div 2 is odd.", "m = a div 2 (never made even)", and of A that it "runs in the block's side
+-- direction".
 use mathlib.Core.List.{List, [], _∷_}
 use lib.Dec.{T}
 use Rattle.division.specs.Division.{square}
@@ -23,7 +24,7 @@ telling =
     ∷ number-in 11 7 42 6 0 5
     ∷ number-in 11 7 0 0 0 5
     -- Areas that get a U cut, each the widest of its height: the first square of B and the last of C, and of 12 by 8 the first of C too. By a > b + 1 all
-    -- of them would be cut long, by 2a >= 3b the 6 by 4, the 9 by 6 and the 12 by 8, by 3a > 4b + 2 the last two, by 5a > 7b + 3 the 12 by 8. If A ran in
+    -- of them would be cut long, by 2a >= 3b the 6 by 4, the 9 by 6 and the 12 by 8, by 3a > 4b + 2 the 9 by 6 and the 12 by 8, by 5a > 7b + 3 the 12 by 8. If A ran in
     -- the run direction, the 6 by 4 would begin (0, 0) (0, 1).
     ∷ traversal 6 4 (square 0 0 ∷ square 1 0 ∷ square 2 0 ∷ square 2 1 ∷ square 1 1 ∷ square 0 1
     ∷ square 0 2 ∷ square 0 3 ∷ square 1 3 ∷ square 1 2 ∷ square 2 2 ∷ square 2 3 ∷ square 3 3 ∷ square 3 2 ∷ square 4 2 ∷ square 4 3 ∷ square 5 3 ∷ square 5 2

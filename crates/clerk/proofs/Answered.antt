@@ -1,0 +1,70 @@
+-- What the lines that ask are answered, in document 01's words: a line with its library call's figures, or with its refusal. So a reply's numbers are the
+-- call's own, k among them.
+use mathlib.Core.Bool.{true, false}
+use mathlib.Core.List.{List, [], _∷_}
+use mathlib.Core.Path.{_≡_, refl, ap, _∙_}
+use Prim.Native.Nat.{ℕ, _-_, _*_, _≤_}
+use native.Mathlib.Omega.{arith}
+use Rattle.terms.specs.declared.Area.{Area}
+use Rattle.terms.specs.declared.Refusal.{Refusal}
+use Rattle.terms.specs.Terms.{accepted, refusal-number, answered, refused}
+use Rattle.terms.proofs.Laws.{limits, refusal-not-0}
+use Rattle.curve.specs.Lookups.{number-to-square, square-to-number, finish-square}
+use Rattle.lines.specs.declared.Request as Requests
+use Rattle.lines.specs.Lines.{AREA, N, S, request}
+use Rattle.lines.proofs.Asking.{with-one, with-two, number-spelt, area-spelt, square-spelt}
+use Rattle.clerk.specs.declared.Clerk.{Clerk}
+use Rattle.clerk.specs.declared.Clerk.the-variants.{NoArea, InForce}
+use Rattle.clerk.specs.Clerk as spec
+
+-- "5, 6, 8": a line that is refused for what it says.
+pub line-refused : (clerk : Clerk) (line : List ℕ) (r : Refusal) → request line ≡ Requests.the-variants.Refused r
+    → spec.reply clerk line ≡ spec.says spec.Refused (refusal-number r ∷ [])
+unfolding spec.reply
+line-refused clerk line r e = ap (spec.due clerk) e
+
+-- "CELL x y k": the line `N i` under an area, with the figures of number to square, or its refusal; and 7 with no area.
+module _ (i : ℕ) (most : i ≤ 4294967295) where
+  pub cell-replied : (area : Area) (x y k : ℕ) → number-to-square (area .w) (area .h) i ≡ answered (x ∷ y ∷ k ∷ [])
+      → spec.reply (InForce area) (with-one N i) ≡ spec.says spec.Cell (x ∷ y ∷ k ∷ [])
+  unfolding spec.reply
+  cell-replied area x y k e = ap (spec.due (InForce area)) (number-spelt i most) ∙ ap (spec.told spec.Cell []) e
+
+  pub number-refused : (area : Area) (r : Refusal) → number-to-square (area .w) (area .h) i ≡ refused r 3
+      → spec.reply (InForce area) (with-one N i) ≡ spec.says spec.Refused (refusal-number r ∷ [])
+  unfolding spec.reply
+  number-refused area r e = ap (spec.due (InForce area)) (number-spelt i most) ∙ ap (spec.told spec.Cell []) e ∙ rw (refusal-not-0 r) refl
+
+  pub number-without-area : spec.reply NoArea (with-one N i) ≡ spec.says spec.Refused (7 ∷ [])
+  unfolding spec.reply
+  number-without-area = ap (spec.due NoArea) (number-spelt i most)
+
+-- "NUMBER i k": the line `S x y`, likewise.
+module _ (x y : ℕ) (most : x ≤ 4294967295) (most′ : y ≤ 4294967295) where
+  pub number-replied : (area : Area) (i k : ℕ) → square-to-number (area .w) (area .h) x y ≡ answered (i ∷ k ∷ [])
+      → spec.reply (InForce area) (with-two S x y) ≡ spec.says spec.Number (i ∷ k ∷ [])
+  unfolding spec.reply
+  number-replied area i k e = ap (spec.due (InForce area)) (square-spelt x y most most′) ∙ ap (spec.told spec.Number []) e
+
+  pub square-refused : (area : Area) (r : Refusal) → square-to-number (area .w) (area .h) x y ≡ refused r 2
+      → spec.reply (InForce area) (with-two S x y) ≡ spec.says spec.Refused (refusal-number r ∷ [])
+  unfolding spec.reply
+  square-refused area r e = ap (spec.due (InForce area)) (square-spelt x y most most′) ∙ ap (spec.told spec.Number []) e ∙ rw (refusal-not-0 r) refl
+
+  pub square-without-area : spec.reply NoArea (with-two S x y) ≡ spec.says spec.Refused (7 ∷ [])
+  unfolding spec.reply
+  square-without-area = ap (spec.due NoArea) (square-spelt x y most most′)
+
+-- "AREA w h n fx fy (n squares, finish square)", whatever was in force; and 1 for two numbers that are no area.
+module _ (clerk : Clerk) (w h : ℕ) where
+  pub area-replied : accepted w h ≡ true → spec.reply clerk (with-two AREA w h) ≡ spec.says spec.Area-set (w ∷ h ∷ (w * h) ∷ (w - 1) ∷ 0 ∷ [])
+  unfolding spec.reply finish-square
+  area-replied ok =
+      let all = limits w h ok in
+      let wide = all .w-most in
+      let high = all .h-most in
+      ap (spec.due clerk) (area-spelt w h (omega arith) (omega arith)) ∙ rw ok refl
+
+  pub area-refused : w ≤ 4294967295 → h ≤ 4294967295 → accepted w h ≡ false → spec.reply clerk (with-two AREA w h) ≡ spec.says spec.Refused (1 ∷ [])
+  unfolding spec.reply finish-square
+  area-refused most most′ bad = ap (spec.due clerk) (area-spelt w h most most′) ∙ rw bad refl
