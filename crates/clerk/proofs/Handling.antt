@@ -7,7 +7,7 @@ use native.Mathlib.Omega.{arith}
 use types.Run.{OneOf, miss}
 use denote.Enum.Declared.{tagOf}
 use borrow.Author.Tests.{ne-eqb}
-use lib.ListN.{length, getD, take, length-take}
+use lib.ListN.{getD}
 use Rattle.terms.specs.declared.Refusal.{Refusal}
 use Rattle.terms.specs.Terms.{accepted, refusal-number, answered, refused}
 use Rattle.terms.proofs.Laws.{squares-limit, refusal-some}
@@ -15,8 +15,6 @@ use Rattle.curve.specs.Lookups.{finish-square}
 use Rattle.lines.specs.declared.Request.{Request}
 use Rattle.lines.specs.declared.Request.the-variants.{SetArea, AskNumber, AskSquare, Refused}
 use Rattle.lines.proofs.Request.{the-type}
-use Rattle.lines.proofs.Shapes.{other-length}
-use Rattle.lines.specs.Lines.{AREA}
 use Rattle.clerk.specs.declared.Clerk.{Clerk}
 use Rattle.clerk.specs.declared.Clerk.the-variants.{NoArea}
 use Rattle.clerk.specs.Clerk as spec
@@ -63,6 +61,3 @@ left-asked clerk begins (SetArea w h) k = absurd (miss (1 ∷ 2 ∷ []) 0 tt k)
 left-asked clerk begins (AskNumber i) k = refl
 left-asked clerk begins (AskSquare x y) k = refl
 left-asked clerk begins (Refused r) k = absurd (miss (1 ∷ 2 ∷ []) 3 tt k)
-
-pub too-short : (line : List ℕ) → length line < 4 → false ≡ spec.begins-area line
-too-short line l = sym (other-length (take 4 line) AREA (λ e. let size = length-take 4 line in omega arith))

@@ -3,13 +3,12 @@ use mathlib.Core.Bool.{Bool, cond}
 use mathlib.Core.List.{List, [], _∷_, _++_}
 use Prim.Native.Nat.{ℕ, _*_}
 use lib.Dec.{eqb}
-use lib.ListN.{take}
 use Rattle.terms.specs.declared.Area.{Area}
 use Rattle.terms.specs.Terms.{accepted, refusal-number, Figures}
 use Rattle.terms.specs.declared.Refusal as Refusals
 use Rattle.curve.specs.Lookups.{number-to-square, square-to-number, finish-square}
 use Rattle.lines.specs.declared.Request as Requests
-use Rattle.lines.specs.Lines.{AREA, same-bytes, request}
+use Rattle.lines.specs.Lines.{AREA, begins, request}
 use Rattle.clerk.specs.declared.Clerk.{Clerk}
 use Rattle.clerk.specs.declared.Clerk.the-variants.{NoArea, InForce}
 use Rattle.clerk.specs.declared.Reply as Replies
@@ -55,7 +54,7 @@ abbrev pub in-force : Area → Clerk
 in-force area = cond (accepted (area .w) (area .h)) (InForce area) NoArea
 
 abbrev pub begins-area : List ℕ → Bool
-begins-area line = same-bytes (take 4 line) AREA
+begins-area line = begins line AREA
 
 -- The clerk behind a line, by what the line asks and whether it begins with AREA.
 abbrev pub left-by : Clerk → (begins : Bool) → Requests.Request → Clerk

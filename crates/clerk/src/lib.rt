@@ -44,16 +44,6 @@ pub struct Handled {
     pub reply: Reply,
 }
 
-// Whether a line's first four bytes are AREA.
-fn begins_with_area(line: &[u8]) -> bool
-    ensures { λ r. ⌜ r ≡ begins-area (now (line .entry)) ⌝ }
-{
-    if line.len() < 4 {
-        return false;
-    }
-    lines::is_area(&line[..4])
-}
-
 // The reply to an AREA line.
 fn area_set(w: u32, h: u32) -> Reply
     ensures { λ r. ⌜ said r ≡ told Area-set (w ∷ h ∷ (w * h) ∷ []) (finish-square w h) ⌝ }
@@ -132,7 +122,7 @@ fn clerk_after(clerk: Clerk, line: &[u8], asked: Request) -> Clerk
     match asked {
         Request::SetArea { w, h } => clerk_under(Area { w: w, h: h }),
         Request::Refused(_) => {
-            if begins_with_area(line) {
+            if lines::begins_with(line, b"AREA") {
                 return Clerk::NoArea;
             }
             clerk

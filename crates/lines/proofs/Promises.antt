@@ -1,17 +1,18 @@
--- What the promises come to. Of `request_of`: two requests that meet it are one, since a request can be told from its figures. Of `is_area`: it turns away a
--- test of the length alone, which AREB passes, and one of the first four bytes alone, which AREAX passes.
-use mathlib.Core.Bool.{cond}
+-- What the promises come to: two requests that meet that of `request_of` are one, since a request can be told from its figures; and wrong programs for
+-- `is_word` and `begins_with` are turned away.
+use mathlib.Core.Bool.{true, cond}
 use mathlib.Core.List.{List, [], _∷_}
 use mathlib.Core.Path.{_≡_, refl, ap}
 use Prim.Native.Nat.{ℕ}
 use native.Mathlib.Omega.{arith}
 use lib.Dec.{eqb}
-use lib.ListN.{length, getD, take}
+use lib.ListN.{length, getD}
 use Rattle.terms.proofs.Laws.{named, named-back, bit}
 use Rattle.terms.proofs.Ones.{by-figures}
 use Rattle.lines.specs.declared.Request.{Request}
 use Rattle.lines.specs.declared.Request.the-variants.{SetArea, AskNumber, AskSquare, Refused}
-use Rattle.lines.specs.Lines.{AREA, same-bytes, Asked, asked}
+use Rattle.lines.specs.Letters.{bytes}
+use Rattle.lines.specs.Lines.{AREA, same-bytes, begins, Asked, asked}
 
 -- the request of some figures: by the first letter of the word, which a refusal has none of
 of-figures : Asked → Request
@@ -31,10 +32,20 @@ told-back (Refused r) = ap Refused (named-back r)
 pub request-one : (p q : Request) {a : Asked} → asked p ≡ a → asked q ≡ a → p ≡ q
 request-one = by-figures asked of-figures told-back
 
-pub length-alone : ((s : List ℕ) → eqb (length s) 4 ≡ same-bytes s AREA) → ⊥
+-- Of `is_word`: one that tests the length alone, which AREB passes for AREA, and one that tests only the first bytes, which AREAX passes.
+pub length-alone : ((s known : List ℕ) → eqb (length s) (length known) ≡ same-bytes s known) → ⊥
 unfolding same-bytes
-length-alone promise = let other : _≡_ {A = ℕ} 1 0 = ap bit (promise (65 ∷ 82 ∷ 69 ∷ 66 ∷ [])) in omega arith
+length-alone promise = let other : _≡_ {A = ℕ} 1 0 = ap bit (promise (bytes "AREB") AREA) in omega arith
 
-pub first-four-alone : ((s : List ℕ) → same-bytes (take 4 s) AREA ≡ same-bytes s AREA) → ⊥
+pub first-bytes-alone : ((s known : List ℕ) → begins s known ≡ same-bytes s known) → ⊥
 unfolding same-bytes
-first-four-alone promise = let other : _≡_ {A = ℕ} 1 0 = ap bit (promise (65 ∷ 82 ∷ 69 ∷ 65 ∷ 88 ∷ [])) in omega arith
+first-bytes-alone promise = let other : _≡_ {A = ℕ} 1 0 = ap bit (promise (bytes "AREAX") AREA) in omega arith
+
+-- Of `begins_with`: one that wants the whole line to be the word, and one that finds every word at the beginning.
+pub whole-line-wanted : ((line known : List ℕ) → same-bytes line known ≡ begins line known) → ⊥
+unfolding same-bytes
+whole-line-wanted promise = let other : _≡_ {A = ℕ} 0 1 = ap bit (promise (bytes "AREAX") AREA) in omega arith
+
+pub always-begins : ((line known : List ℕ) → true ≡ begins line known) → ⊥
+unfolding same-bytes
+always-begins promise = let other : _≡_ {A = ℕ} 1 0 = ap bit (promise [] AREA) in omega arith

@@ -1,17 +1,18 @@
 -- A field and a word compared byte by byte, and what the fields behind the word make of a line.
-use mathlib.Core.Bool.{true, false, _&&_, and-false, and-true, or-true, and-eq-true-iff}
+use mathlib.Core.Bool.{true, false, _&&_, and-false, or-true, and-eq-true-iff}
 use mathlib.Core.List.{List, [], _∷_}
 use mathlib.Core.Path.{_≡_, refl, sym, ap, ap₂, _∙_}
-use Prim.Native.Nat.{ℕ, _≤_, _<_}
+use Prim.Native.Nat.{ℕ, suc, _+_, _≤_, _<_}
 use native.Mathlib.Omega.{arith}
 use borrow.Author.Tests.{eq-eqb, ne-eqb, eqb-true}
 use lib.Dec.{eqb}
-use lib.ListN.{length, getD}
+use lib.ListN.{length, getD, take, drop, length-take}
+use lib.Seq.{drop-cons, drop-length}
 use Rattle.terms.specs.declared.Refusal.the-variants.{WrongShape}
 use Rattle.lines.specs.declared.Numeral.{Numeral}
 use Rattle.lines.specs.declared.Request.{Request}
 use Rattle.lines.specs.declared.Request.the-variants.{Refused}
-use Rattle.lines.specs.Lines.{numeral, AREA, same-bytes, is-empty, by-one, of-one, by-two, of-two}
+use Rattle.lines.specs.Lines.{numeral, same-bytes, begins, is-empty, by-one, of-one, by-two, of-two}
 
 pub other-length : (s t : List ℕ) → (length s ≡ length t → ⊥) → same-bytes s t ≡ false
 unfolding same-bytes
@@ -34,37 +35,25 @@ same-true (a ∷ s) (b ∷ t) e =
     let both = and-eq-true-iff (eqb a b) (same-bytes s t) .0 e in
     ap₂ _∷_ (eqb-true a b (both .0)) (same-true s t (both .1))
 
-pub one-letter : (s : List ℕ) (a : ℕ) → length s ≡ 1 → eqb (getD s 0 0) a ≡ same-bytes s (a ∷ [])
-unfolding same-bytes
-one-letter [] a e = absurd (omega arith)
-one-letter (x ∷ []) a e = sym (and-true (eqb x a))
-one-letter (x ∷ y ∷ s) a e = absurd (omega arith)
+-- a byte at a time: a byte that is the same leaves the rest to compare, another one ends it, and so does the end of both
+module _ (s t : List ℕ) (i : ℕ) where
+  pub same-on : i < length s → i < length t → getD s i 0 ≡ getD t i 0 → same-bytes (drop i s) (drop i t) ≡ same-bytes (drop (i + 1) s) (drop (i + 1) t)
+  unfolding same-bytes
+  same-on l m e =
+      let on : i + 1 ≡ suc i = omega arith in
+      rw on (rw (drop-cons s i 0 l, drop-cons t i 0 m) (rw (eq-eqb (getD s i 0) (getD t i 0) e) refl))
 
-four-letters : (s : List ℕ) (a b c d : ℕ) → length s ≡ 4
-    → (eqb (getD s 0 0) a && (eqb (getD s 1 0) b && (eqb (getD s 2 0) c && eqb (getD s 3 0) d))) ≡ same-bytes s (a ∷ b ∷ c ∷ d ∷ [])
-unfolding same-bytes
-four-letters [] a b c d e = absurd (omega arith)
-four-letters (x ∷ []) a b c d e = absurd (omega arith)
-four-letters (x ∷ y ∷ []) a b c d e = absurd (omega arith)
-four-letters (x ∷ y ∷ z ∷ []) a b c d e = absurd (omega arith)
-four-letters (x ∷ y ∷ z ∷ u ∷ []) a b c d e = ap (λ t. eqb x a && (eqb y b && (eqb z c && t))) (sym (and-true (eqb u d)))
-four-letters (x ∷ y ∷ z ∷ u ∷ v ∷ s) a b c d e = absurd (omega arith)
+  pub other-byte : i < length s → i < length t → (getD s i 0 ≡ getD t i 0 → ⊥) → same-bytes (drop i s) (drop i t) ≡ false
+  unfolding same-bytes
+  other-byte l m e = rw (drop-cons s i 0 l, drop-cons t i 0 m) (rw (ne-eqb (getD s i 0) (getD t i 0) e) refl)
 
--- the word AREA, a byte at a time
-module _ (s : List ℕ) (e : length s ≡ 4) where
-  pub area-first : (getD s 0 0 ≡ 65 → ⊥) → false ≡ same-bytes s AREA
-  area-first o = sym (rw (ne-eqb (getD s 0 0) 65 o)) ∙ four-letters s 65 82 69 65 e
+  pub same-end : i ≡ length s → i ≡ length t → same-bytes (drop i s) (drop i t) ≡ true
+  unfolding same-bytes
+  same-end l m = ap₂ same-bytes (ap (λ n. drop n s) l ∙ drop-length s) (ap (λ n. drop n t) m ∙ drop-length t)
 
-  module _ (p : getD s 0 0 ≡ 65) where
-    pub area-second : (getD s 1 0 ≡ 82 → ⊥) → false ≡ same-bytes s AREA
-    area-second o = sym (rw (eq-eqb (getD s 0 0) 65 p, ne-eqb (getD s 1 0) 82 o)) ∙ four-letters s 65 82 69 65 e
-
-    module _ (q : getD s 1 0 ≡ 82) where
-      pub area-third : (getD s 2 0 ≡ 69 → ⊥) → false ≡ same-bytes s AREA
-      area-third o = sym (rw (eq-eqb (getD s 0 0) 65 p, eq-eqb (getD s 1 0) 82 q, ne-eqb (getD s 2 0) 69 o)) ∙ four-letters s 65 82 69 65 e
-
-      pub area-fourth : getD s 2 0 ≡ 69 → eqb (getD s 3 0) 65 ≡ same-bytes s AREA
-      area-fourth r = sym (rw (eq-eqb (getD s 0 0) 65 p, eq-eqb (getD s 1 0) 82 q, eq-eqb (getD s 2 0) 69 r)) ∙ four-letters s 65 82 69 65 e
+-- a line that is shorter than a word does not begin with it
+pub too-short : (line known : List ℕ) → length line < length known → false ≡ begins line known
+too-short line known l = sym (other-length (take (length known) line) known (λ e. let size = length-take (length known) line in omega arith))
 
 -- the fields behind the word
 empty : (s : List ℕ) → length s < 1 → is-empty s ≡ true

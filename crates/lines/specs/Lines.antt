@@ -3,7 +3,7 @@ use mathlib.Core.Bool.{Bool, true, false, not, cond, _&&_, _||_}
 use mathlib.Core.List.{List, [], _∷_}
 use Prim.Native.Nat.{ℕ, _+_, _-_, _*_}
 use lib.Dec.{leb, eqb}
-use lib.ListN.{length}
+use lib.ListN.{length, take}
 use Rattle.terms.specs.declared.Refusal.the-variants.{NotANumber, WrongShape, LongLine}
 use Rattle.terms.specs.Terms.{refusal-number}
 use Rattle.lines.specs.declared.Numeral.{Numeral}
@@ -66,6 +66,10 @@ same-bytes [] [] = true
 same-bytes [] (b ∷ bs) = false
 same-bytes (a ∷ cs) [] = false
 same-bytes (a ∷ cs) (b ∷ bs) = eqb a b && same-bytes cs bs
+
+-- Whether a line's first bytes are a word's: "whose first four bytes are AREA".
+abbrev pub begins : (line word : List ℕ) → Bool
+begins line word = same-bytes (take (length word) line) word
 
 -- What a known word asks with the one field, or the two, behind it: an empty field is refusal 6, and one that is not a number refusal 5.
 abbrev pub is-empty : List ℕ → Bool

@@ -7,7 +7,7 @@ ghost use Prim.Native.Nat.{_≤_};
 ghost use lib.Dec.{leb};
 ghost use lib.ListN.{length};
 ghost use Rattle.lines.specs.declared.Request.the-variants.{SetArea, AskNumber, AskSquare};
-ghost use Rattle.lines.specs.Lines.{all-digits, well-begun, value, numeral, same-bytes, AREA, of-one, of-two, two-fields, three-fields, request, asked};
+ghost use Rattle.lines.specs.Lines.{all-digits, well-begun, value, numeral, same-bytes, begins, of-one, of-two, two-fields, three-fields, request, asked};
 ghost use Rattle.lines.specs.Reading.{field-at, piece, made-of-three, three-read};
 
 // How many bytes a line may have.
@@ -172,33 +172,30 @@ fn number(s: &[u8]) -> Numeral
     Numeral::Value(v as u32)
 }
 
-// Whether a field is one letter.
-fn is_letter(s: &[u8], letter: u8) -> bool
-    ensures { λ r. ⌜ r ≡ same-bytes (now (s .entry)) (letter ∷ []) ⌝ }
+// Whether a field is a word.
+pub fn is_word(s: &[u8], word: &[u8]) -> bool
+    ensures { λ r. ⌜ r ≡ same-bytes (now (s .entry)) (now (word .entry)) ⌝ }
 {
-    if s.len() != 1 {
+    if s.len() != word.len() {
         return false;
     }
-    s[0] == letter
+    for i in 0..s.len() {
+        if s[i] != word[i] {
+            return false;
+        }
+    }
+    true
 }
 
-// Whether a field is the word AREA.
-pub fn is_area(s: &[u8]) -> bool
-    ensures { λ r. ⌜ r ≡ same-bytes (now (s .entry)) AREA ⌝ }
+// Whether a line begins with a word.
+pub fn begins_with(line: &[u8], word: &[u8]) -> bool
+    ensures { λ r. ⌜ r ≡ begins (now (line .entry)) (now (word .entry)) ⌝ }
 {
-    if s.len() != 4 {
+    let n = word.len();
+    if line.len() < n {
         return false;
     }
-    if s[0] != b'A' {
-        return false;
-    }
-    if s[1] != b'R' {
-        return false;
-    }
-    if s[2] != b'E' {
-        return false;
-    }
-    s[3] == b'A'
+    is_word(&line[..n], word)
 }
 
 // What a line asks with one number behind its word.
@@ -242,7 +239,7 @@ fn with_two(a: &[u8], b: &[u8], sets: bool) -> Request
 fn two_fields(word: &[u8], a: &[u8]) -> Request
     ensures { λ r. ⌜ r ≡ two-fields (now (word .entry)) (now (a .entry)) ⌝ }
 {
-    if is_letter(word, b'N') {
+    if is_word(word, b"N") {
         return with_one(a);
     }
     Request::Refused(Refusal::WrongShape)
@@ -252,10 +249,10 @@ fn two_fields(word: &[u8], a: &[u8]) -> Request
 fn three_fields(word: &[u8], a: &[u8], b: &[u8]) -> Request
     ensures { λ r. ⌜ r ≡ three-fields (now (word .entry)) (now (a .entry)) (now (b .entry)) ⌝ }
 {
-    if is_area(word) {
+    if is_word(word, b"AREA") {
         return with_two(a, b, true);
     }
-    if is_letter(word, b'S') {
+    if is_word(word, b"S") {
         return with_two(a, b, false);
     }
     Request::Refused(Refusal::WrongShape)

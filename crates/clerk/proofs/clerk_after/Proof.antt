@@ -15,20 +15,31 @@ clerk-under-requires c κs = search needs
 enum-told : tie.Need-enum-told
 enum-told c = search needs
 
-begins-with-area-requires : tie.Need-begins-with-area-requires
-begins-with-area-requires c κs = search needs
+slice-aggregate-begins-with : tie.Need-slice-aggregate-begins-with
+slice-aggregate-begins-with c = search needs
+
+begins-with-requires : tie.Need-begins-with-requires
+begins-with-requires c κs = search needs
 
 returns : tie.Need-returns
-returns c = left-none (c .before .before .before .before .before .args .clerk) (c .before .before .enum-told .given .1) (sym (c .before .begins-with-area .ensures) ∙ c .if1 .taken)
+returns c =
+    let match = c .before .before .before in
+    left-none (match .before .before .before .args .clerk) (match .enum-told .given .1) (sym (c .before .begins-with .ensures) ∙ c .if1 .taken)
 
 returns-2 : tie.Need-returns-2
-returns-2 c = c .clerk-under .ensures ∙ ap (left-by (c .before .before .before .before .before .args .clerk) (begins-area (c .before .before .before .before .before .args .line .now))) (sym (c .before .before .asked .given .1))
+returns-2 c =
+    let match = c .before .before in
+    let start = match .before .before .before in
+    let begins = begins-area (start .args .line .now) in
+    c .clerk-under .ensures ∙ ap (left-by (start .args .clerk) begins) (sym (match .asked .given .1))
 
 returns-3 : tie.Need-returns-3
-returns-3 c = left-alone (c .before .before .before .before .before .args .clerk) (c .before .before .enum-told .given .1) (sym (c .before .begins-with-area .ensures) ∙ c .if1 .left)
+returns-3 c =
+    let match = c .before .before .before in
+    left-alone (match .before .before .before .args .clerk) (match .enum-told .given .1) (sym (c .before .begins-with .ensures) ∙ c .if1 .left)
 
 returns-4 : tie.Need-returns-4
-returns-4 c = left-asked (c .before .before .args .clerk) (begins-area (c .before .before .args .line .now)) (c .before .before .args .asked) (c .match .keys3)
+returns-4 c = let start = c .before .before in left-asked (start .args .clerk) (begins-area (start .args .line .now)) (start .args .asked) (c .match .keys3)
 
 pub clerk-after-spec : {M : Type 1} → statement M
 clerk-after-spec =
@@ -37,7 +48,8 @@ clerk-after-spec =
     enum-known-asked
     clerk-under-requires
     enum-told
-    begins-with-area-requires
+    slice-aggregate-begins-with
+    begins-with-requires
     returns
     returns-2
     returns-3

@@ -4,35 +4,51 @@ use mathlib.Core.Path.{sym, _∙_}
 use Rattle.lines.proofs.three_fields.Statement.{statement}
 use Rattle.lines.proofs.three_fields.Tie as tie
 
-is-area-requires : tie.Need-is-area-requires
-is-area-requires c κs = search needs
+slice-aggregate-is-word : tie.Need-slice-aggregate-is-word
+slice-aggregate-is-word c = search needs
+
+is-word-requires : tie.Need-is-word-requires
+is-word-requires c κs = search needs
 
 with-two-requires : tie.Need-with-two-requires
 with-two-requires c κs = search needs
 
 returns : tie.Need-returns
-returns c = c .with-two .ensures ∙ sym (rw (sym (c .before .before .is-area .ensures) ∙ c .before .if1 .taken))
+returns c = c .with-two .ensures ∙ sym (rw (sym (c .before .before .is-word .ensures) ∙ c .before .if1 .taken))
 
-is-letter-requires : tie.Need-is-letter-requires
-is-letter-requires c κs = search needs
+slice-aggregate-is-word-2 : tie.Need-slice-aggregate-is-word-2
+slice-aggregate-is-word-2 c = search needs
+
+is-word-requires-2 : tie.Need-is-word-requires-2
+is-word-requires-2 c κs = search needs
 
 with-two-requires-2 : tie.Need-with-two-requires-2
 with-two-requires-2 c κs = search needs
 
 returns-2 : tie.Need-returns-2
-returns-2 c = c .with-two2 .ensures ∙ sym (rw (sym (c .before .before .before .before .is-area .ensures) ∙ c .before .before .before .if1 .left, sym (c .before .before .is-letter .ensures) ∙ c .before .if2 .taken))
+returns-2 c =
+    let first = c .before .before .before .before in
+    let not-area = sym (first .before .is-word .ensures) ∙ first .if1 .left in
+    let is-s = sym (c .before .before .is-word2 .ensures) ∙ c .before .if2 .taken in
+    c .with-two2 .ensures ∙ sym (rw (not-area, is-s))
 
 returns-3 : tie.Need-returns-3
-returns-3 c = sym (rw (sym (c .before .before .before .is-area .ensures) ∙ c .before .before .if1 .left, sym (c .before .is-letter .ensures) ∙ c .if2 .left))
+returns-3 c =
+    let first = c .before .before .before in
+    let not-area = sym (first .before .is-word .ensures) ∙ first .if1 .left in
+    let not-s = sym (c .before .is-word2 .ensures) ∙ c .if2 .left in
+    sym (rw (not-area, not-s))
 
 pub three-fields-spec : {M : Type 1} → statement M
 three-fields-spec =
     tie.close
     (tie.spec
-    is-area-requires
+    slice-aggregate-is-word
+    is-word-requires
     with-two-requires
     returns
-    is-letter-requires
+    slice-aggregate-is-word-2
+    is-word-requires-2
     with-two-requires-2
     returns-2
     returns-3)

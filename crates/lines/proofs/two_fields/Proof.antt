@@ -4,17 +4,22 @@ use mathlib.Core.Path.{sym, _∙_}
 use Rattle.lines.proofs.two_fields.Statement.{statement}
 use Rattle.lines.proofs.two_fields.Tie as tie
 
-is-letter-requires : tie.Need-is-letter-requires
-is-letter-requires c κs = search needs
+slice-aggregate-is-word : tie.Need-slice-aggregate-is-word
+slice-aggregate-is-word c = search needs
+
+is-word-requires : tie.Need-is-word-requires
+is-word-requires c κs = search needs
 
 with-one-requires : tie.Need-with-one-requires
 with-one-requires c κs = search needs
 
 returns : tie.Need-returns
-returns c = c .with-one .ensures ∙ sym (rw (sym (c .before .before .is-letter .ensures) ∙ c .before .if1 .taken))
+returns c = c .with-one .ensures ∙ sym (rw (sym (c .before .before .is-word .ensures) ∙ c .before .if1 .taken))
 
 returns-2 : tie.Need-returns-2
-returns-2 c = sym (rw (sym (c .before .is-letter .ensures) ∙ c .if1 .left))
+returns-2 c = sym (rw (sym (c .before .is-word .ensures) ∙ c .if1 .left))
 
 pub two-fields-spec : {M : Type 1} → statement M
-two-fields-spec = tie.close (tie.spec is-letter-requires with-one-requires returns returns-2)
+two-fields-spec =
+    tie.close
+    (tie.spec slice-aggregate-is-word is-word-requires with-one-requires returns returns-2)

@@ -1,0 +1,23 @@
+-- `lines::begins_with` meets its contract: a line that is too short is no match, and of any other the first bytes are compared.
+use borrow.Author.Needs.{needs}
+use mathlib.Core.Path.{sym}
+use lib.ListN.{length}
+use lib.Seq.{length-take-le}
+use Rattle.lines.proofs.Shapes.{too-short}
+use Rattle.lines.proofs.begins_with.Statement.{statement}
+use Rattle.lines.proofs.begins_with.Tie as tie
+
+returns : tie.Need-returns
+returns c = too-short (c .before .before .before .args .line .now) (c .before .before .before .args .word .now) (c .if1 .taken)
+
+slice-aggregate-is-word : tie.Need-slice-aggregate-is-word
+slice-aggregate-is-word c = sym (length-take-le (length (c .before .before .before .before .args .word .now)) (c .before .before .before .before .args .line .now) (c .before .if1 .left))
+
+is-word-requires : tie.Need-is-word-requires
+is-word-requires c κs = search needs
+
+returns-2 : tie.Need-returns-2
+returns-2 c = search needs
+
+pub begins-with-spec : {M : Type 1} → statement M
+begins-with-spec = tie.close (tie.spec returns slice-aggregate-is-word is-word-requires returns-2)

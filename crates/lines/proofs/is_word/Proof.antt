@@ -1,0 +1,72 @@
+-- `lines::is_word` meets its contract. The loop's invariant: what is due of both is what is due of the rest of both. The measure is what is left.
+use mathlib.Core.Path.{_≡_, refl, sym, _∙_}
+use Prim.Native.Nat.{_-_, _≤_}
+use native.Mathlib.Omega.{arith}
+use lib.ListN.{length, drop}
+use Rattle.lines.specs.Lines.{same-bytes}
+use Rattle.lines.proofs.Shapes.{other-length, same-on, other-byte, same-end}
+use Rattle.lines.proofs.is_word.Statement.{statement}
+use Rattle.lines.proofs.is_word.Tie as tie
+
+abbrev Inv-loop : tie.InvT-loop
+Inv-loop s word i₀ i-end i =
+    (length s ≡ length word) × (i ≤ i-end) × (same-bytes s word ≡ same-bytes (drop i s) (drop i word))
+
+abbrev μ-loop : tie.MeasureT-loop
+μ-loop s word i₀ i-end i = i-end - i
+
+returns : tie.Need-returns Inv-loop μ-loop
+returns c = sym (other-length _ _ (c .if1 .taken))
+
+loop-holds : tie.Need-loop-holds Inv-loop μ-loop
+loop-holds c = (c .if1 .left, omega arith, refl)
+
+shared-slice-read-if2 : tie.Need-shared-slice-read-if2 Inv-loop μ-loop
+shared-slice-read-if2 c = c .before .loop-test .taken
+
+shared-slice-read-if2-2 : tie.Need-shared-slice-read-if2-2 Inv-loop μ-loop
+shared-slice-read-if2-2 c = let same = c .before .before .before .loop .inv .0 in let l = c .before .before .loop-test .taken in omega arith
+
+returns-2 : tie.Need-returns-2 Inv-loop μ-loop
+returns-2 c =
+    let at = c .before .before .before .before .loop in
+    let l = c .before .before .before .loop-test .taken in
+    let same = at .inv .0 in
+    sym (at .inv .2 ∙ other-byte _ _ (at .i) l (omega arith) (c .if2 .taken))
+
+add-i : tie.Need-add-i Inv-loop μ-loop
+add-i c = record { fits = let l = c .before .before .before .loop-test .taken in omega arith }
+
+loop-less : tie.Need-loop-less Inv-loop μ-loop
+loop-less c = let l = c .before .before .before .loop-test .taken in omega arith
+
+loop-again : tie.Need-loop-again Inv-loop μ-loop
+loop-again c =
+    let at = c .before .before .before .before .loop in
+    let l = c .before .before .before .loop-test .taken in
+    let same = at .inv .0 in
+    (same, omega arith, at .inv .2 ∙ same-on _ _ (at .i) l (omega arith) (c .if2 .left))
+
+returns-3 : tie.Need-returns-3 Inv-loop μ-loop
+returns-3 c =
+    let at = c .before .loop in
+    let most = at .inv .1 in
+    let last = c .loop-test .left in
+    let same = at .inv .0 in
+    sym (at .inv .2 ∙ same-end (c .before .before .before .args .s .now) (c .before .before .before .args .word .now) (at .i) (omega arith) (omega arith))
+
+pub is-word-spec : {M : Type 1} → statement M
+is-word-spec =
+    tie.close
+    (tie.spec
+    Inv-loop
+    μ-loop
+    returns
+    loop-holds
+    shared-slice-read-if2
+    shared-slice-read-if2-2
+    returns-2
+    add-i
+    loop-less
+    loop-again
+    returns-3)
