@@ -1,18 +1,19 @@
 -- `orders::serve` meets its contract: the desk stays in order, and each turn takes a byte at least, so that what is left of the chunk is the measure.
+-- The stops on the way: the loop, the call of feed, the text that is written.
 use mathlib.Core.Bool.{true}
 use mathlib.Core.Path.{_≡_, refl, sym, ap, _∙_}
-use Prim.Native.Nat.{_+_, _-_, _≤_}
+use Prim.Native.Nat.{_-_}
 use native.Mathlib.Omega.{arith}
 use lib.ListN.{length}
 use lib.Seq.{length-take-le}
-use Rattle.replies.specs.Text.{longest}
 use Rattle.desk.specs.Steps.{in-order}
 use Rattle.desk.proofs.Going.{stays-in-order, goes-on}
 use Rattle.orders.proofs.serve.Statement.{statement}
 use Rattle.orders.proofs.serve.Tie as tie
 
 abbrev Inv-loop : tie.InvT-loop
-Inv-loop kept₀ chunk out₀ d₀ from₀ kept out d from = (in-order d kept ≡ true) × (length kept ≡ length kept₀) × (length out ≡ length out₀)
+Inv-loop kept₀ chunk out₀ d₀ from₀ kept out d from =
+    (in-order d kept ≡ true) × (length kept ≡ length kept₀) × (length out ≡ length out₀)
 
 abbrev μ-loop : tie.MeasureT-loop
 μ-loop kept₀ chunk out₀ d₀ from₀ kept out d from = length chunk - from
@@ -23,36 +24,76 @@ loop-holds c = (c .before .before .before .pre .0, refl, refl)
 feed-requires : tie.Need-feed-requires Inv-loop μ-loop
 feed-requires c κs = tt
 
-slice-reshare-prefix-write-all : tie.Need-slice-reshare-prefix-write-all Inv-loop μ-loop
-slice-reshare-prefix-write-all c = let same = c .before .before .before .before .before .feed .kept .1 .1 .1 .1 .0 in let fits = c .before .before .before .before .before .feed .ensures .1 (omega arith) in omega arith
+slice-reshare-prefix-write : tie.Need-slice-reshare-prefix-write Inv-loop μ-loop
+slice-reshare-prefix-write c =
+    let fed = c .before .before .before .before .before in
+    let looped = fed .before .before .before .before in
+    let same = fed .feed .kept .1 .1 .1 .1 .0 in
+    let fits = fed .feed .ensures .1 (omega arith) in
+    omega arith
 
-slice-aggregate-write-all : tie.Need-slice-aggregate-write-all Inv-loop μ-loop
-slice-aggregate-write-all c = sym (length-take-le (c .before .before .before .before .before .before .feed .result .at) (c .before .before .before .before .before .before .feed .last .1 .1 .1 .1 .0) (let same = c .before .before .before .before .before .before .feed .kept .1 .1 .1 .1 .0 in let fits = c .before .before .before .before .before .before .feed .ensures .1 (omega arith) in omega arith))
+slice-aggregate-write : tie.Need-slice-aggregate-write Inv-loop μ-loop
+slice-aggregate-write c =
+    let text = c .before .before .before in
+    let fed = text .before .before .before in
+    let same = fed .feed .kept .1 .1 .1 .1 .0 in
+    let fits = fed .feed .ensures .1 (omega arith) in
+    sym (length-take-le (fed .feed .result .at) (fed .feed .last .1 .1 .1 .1 .0) (omega arith))
 
-write-all-requires : tie.Need-write-all-requires Inv-loop μ-loop
-write-all-requires c κs = tt
+write-requires : tie.Need-write-requires Inv-loop μ-loop
+write-requires c κs = tt
 
 closed-requires : tie.Need-closed-requires Inv-loop μ-loop
 closed-requires c κs = tt
 
 same-length : tie.Need-same-length Inv-loop μ-loop
-same-length c = c .before .before .before .before .before .before .before .before .before .feed .kept .1 .0 ∙ c .before .before .before .before .before .before .before .before .before .before .before .before .before .loop .inv .1
+same-length c =
+    let text = c .before .before .before .before .before in
+    let fed = text .before .before .before .before in
+    let looped = fed .before .before .before .before in
+    fed .feed .kept .1 .0 ∙ looped .loop .inv .1
 
 same-length-2 : tie.Need-same-length-2 Inv-loop μ-loop
-same-length-2 c = c .before .before .before .before .before .before .before .before .before .feed .kept .1 .1 .1 .1 .0 ∙ c .before .before .before .before .before .before .before .before .before .before .before .before .before .loop .inv .2
+same-length-2 c =
+    let text = c .before .before .before .before .before in
+    let fed = text .before .before .before .before in
+    let looped = fed .before .before .before .before in
+    fed .feed .kept .1 .1 .1 .1 .0 ∙ looped .loop .inv .2
 
 returns : tie.Need-returns Inv-loop μ-loop
-returns c = ap (λ k. in-order k (c .before .before .before .before .before .before .before .before .before .feed .last .1 .0)) (c .closed .ensures) ∙ stays-in-order (c .before .before .before .before .before .before .before .before .before .before .before .before .before .loop .d) (c .before .before .before .before .before .before .before .before .before .before .before .before .before .loop .kept) (c .before .before .before .before .before .before .before .before .before .before .before .before .before .loop .inv .0) 0 (length (c .before .before .before .before .before .before .before .before .before .before .before .before .before .loop .out)) (c .before .before .before .before .before .before .before .before .before .before .before .before .before .loop .from) (c .before .before .before .before .before .before .before .before .before .before .before .before .before .before .before .before .before .args .chunk .now) (c .before .before .before .before .before .before .before .before .before .feed .ensures .0)
+returns c =
+    let text = c .before .before .before .before .before in
+    let fed = text .before .before .before .before in
+    let looped = fed .before .before .before .before in
+    let start = looped .before .before .before .before in
+    let at = looped .loop in
+    ap (λ k. in-order k (fed .feed .last .1 .0)) (c .closed .ensures)
+    ∙ stays-in-order (at .d) (at .kept) (at .inv .0) 0 (length (at .out)) (at .from) (start .args .chunk .now) (fed .feed .ensures .0)
 
 loop-less : tie.Need-loop-less Inv-loop μ-loop
 loop-less c =
-    let room : 0 + longest ≤ length (c .before .before .before .before .before .before .before .before .before .before .before .before .loop .out) = let same = c .before .before .before .before .before .before .before .before .before .before .before .before .loop .inv .2 in let all = c .before .before .before .before .before .before .before .before .before .before .before .before .before .before .before .before .pre .1 in omega arith in
-    let l = c .before .before .before .before .before .before .before .before .before .before .before .loop-test .taken in
-    let more = goes-on (c .before .before .before .before .before .before .before .before .before .before .before .before .loop .d) (c .before .before .before .before .before .before .before .before .before .before .before .before .loop .kept) (c .before .before .before .before .before .before .before .before .before .before .before .before .loop .inv .0) 0 (length (c .before .before .before .before .before .before .before .before .before .before .before .before .loop .out)) (c .before .before .before .before .before .before .before .before .before .before .before .before .loop .from) (c .before .before .before .before .before .before .before .before .before .before .before .before .before .before .before .before .args .chunk .now) (c .before .before .before .before .before .before .before .before .feed .ensures .0) room l in
+    let text = c .before .before .before .before in
+    let fed = text .before .before .before .before in
+    let looped = fed .before .before .before .before in
+    let start = looped .before .before .before .before in
+    let at = looped .loop in
+    let same = at .inv .2 in
+    let all = start .pre .1 in
+    let l = fed .before .before .before .loop-test .taken in
+    let more = goes-on (at .d) (at .kept) (at .inv .0) 0 (length (at .out)) (at .from) (start .args .chunk .now) (fed .feed .ensures .0) (omega arith) l in
     omega arith
 
 loop-again : tie.Need-loop-again Inv-loop μ-loop
-loop-again c = (stays-in-order (c .before .before .before .before .before .before .before .before .before .before .before .before .loop .d) (c .before .before .before .before .before .before .before .before .before .before .before .before .loop .kept) (c .before .before .before .before .before .before .before .before .before .before .before .before .loop .inv .0) 0 (length (c .before .before .before .before .before .before .before .before .before .before .before .before .loop .out)) (c .before .before .before .before .before .before .before .before .before .before .before .before .loop .from) (c .before .before .before .before .before .before .before .before .before .before .before .before .before .before .before .before .args .chunk .now) (c .before .before .before .before .before .before .before .before .feed .ensures .0), c .before .before .before .before .before .before .before .before .feed .kept .1 .0 ∙ c .before .before .before .before .before .before .before .before .before .before .before .before .loop .inv .1, c .before .before .before .before .before .before .before .before .feed .kept .1 .1 .1 .1 .0 ∙ c .before .before .before .before .before .before .before .before .before .before .before .before .loop .inv .2)
+loop-again c =
+    let text = c .before .before .before .before in
+    let fed = text .before .before .before .before in
+    let looped = fed .before .before .before .before in
+    let start = looped .before .before .before .before in
+    let at = looped .loop in (
+      stays-in-order (at .d) (at .kept) (at .inv .0) 0 (length (at .out)) (at .from) (start .args .chunk .now) (fed .feed .ensures .0),
+      fed .feed .kept .1 .0 ∙ at .inv .1,
+      fed .feed .kept .1 .1 .1 .1 .0 ∙ at .inv .2,
+    )
 
 same-length-3 : tie.Need-same-length-3 Inv-loop μ-loop
 same-length-3 c = c .before .loop .inv .1
@@ -71,9 +112,9 @@ serve-spec =
     μ-loop
     loop-holds
     feed-requires
-    slice-reshare-prefix-write-all
-    slice-aggregate-write-all
-    write-all-requires
+    slice-reshare-prefix-write
+    slice-aggregate-write
+    write-requires
     closed-requires
     same-length
     same-length-2

@@ -1,4 +1,4 @@
--- `orders::turn` keeps the desk in order: a desk that a failed read closes has kept what it had, and the rest is `serve`.
+-- `orders::turn` meets its contract: a closed desk is as much in order as it was, and `serve` leaves it in order.
 use borrow.Author.Needs.{needs}
 use mathlib.Core.Path.{ap, _∙_}
 use Rattle.desk.specs.declared.Desk.{Desk}
@@ -6,8 +6,14 @@ use Rattle.desk.specs.Steps.{in-order}
 use Rattle.orders.proofs.turn.Statement.{statement}
 use Rattle.orders.proofs.turn.Tie as tie
 
-read-requires : tie.Need-read-requires
-read-requires c κs = search needs
+read-some-requires : tie.Need-read-some-requires
+read-some-requires c κs = search needs
+
+slice-aggregate-fail-at : tie.Need-slice-aggregate-fail-at
+slice-aggregate-fail-at c = search needs
+
+fail-at-requires : tie.Need-fail-at-requires
+fail-at-requires c κs = search needs
 
 closed-requires : tie.Need-closed-requires
 closed-requires c κs = search needs
@@ -16,10 +22,10 @@ same-length : tie.Need-same-length
 same-length c = search needs
 
 returns : tie.Need-returns
-returns c = ap (λ (d : Desk). in-order d (c .before .before .before .before .before .before .before .before .before .args .kept .now)) (c .closed .ensures) ∙ c .before .before .before .before .before .before .before .before .before .pre .0
-
-count-requires : tie.Need-count-requires
-count-requires c κs = search needs
+returns c =
+    let failed = c .before .before .before .before .before in
+    let start = failed .before .before .before .before .before .before in
+    ap (λ (d : Desk). in-order d (start .args .kept .now)) (c .closed .ensures) ∙ start .pre .0
 
 slice-reshare-prefix-serve : tie.Need-slice-reshare-prefix-serve
 slice-reshare-prefix-serve c = search needs
@@ -58,11 +64,12 @@ pub turn-spec : {M : Type 1} → statement M
 turn-spec =
     tie.close
     (tie.spec
-    read-requires
+    read-some-requires
+    slice-aggregate-fail-at
+    fail-at-requires
     closed-requires
     same-length
     returns
-    count-requires
     slice-reshare-prefix-serve
     slice-aggregate-serve
     serve-requires

@@ -1,18 +1,19 @@
--- `orders::main` ends: the desk stays in order, the buffers keep their lengths, and the turns are counted down.
+-- `orders::answer` ends: the desk stays in order, the buffers keep their lengths, and the turns are counted down.
 use mathlib.Core.Bool.{true}
 use mathlib.Core.Path.{_≡_, refl, sym, _∙_}
 use native.Mathlib.Omega.{arith}
 use lib.ListN.{length}
 use lib.Seq.{length-take-le}
 use Rattle.desk.specs.Steps.{in-order}
-use Rattle.orders.proofs.main.Statement.{statement}
-use Rattle.orders.proofs.main.Tie as tie
+use Rattle.orders.proofs.answer.Statement.{statement}
+use Rattle.orders.proofs.answer.Tie as tie
 
 abbrev Inv-loop : tie.InvT-loop
-Inv-loop kept₀ chunk₀ out₀ d₀ turns₀ kept chunk out d turns = (in-order d kept ≡ true) × (length kept ≡ 65) × (length chunk ≡ 65536) × (length out ≡ 65536)
+Inv-loop fd kept₀ chunk₀ out₀ d₀ turns₀ kept chunk out d turns =
+    (in-order d kept ≡ true) × (length kept ≡ 65) × (length chunk ≡ 65536) × (length out ≡ 65536)
 
 abbrev μ-loop : tie.MeasureT-loop
-μ-loop kept₀ chunk₀ out₀ d₀ turns₀ kept chunk out d turns = turns
+μ-loop fd kept₀ chunk₀ out₀ d₀ turns₀ kept chunk out d turns = turns
 
 large-buffer-requires : tie.Need-large-buffer-requires Inv-loop μ-loop
 large-buffer-requires c κs = tt
@@ -36,16 +37,23 @@ slice-aggregate-turn-3 : tie.Need-slice-aggregate-turn-3 Inv-loop μ-loop
 slice-aggregate-turn-3 c = sym (c .before .before .before .before .loop .inv .3)
 
 turn-requires : tie.Need-turn-requires Inv-loop μ-loop
-turn-requires c κs = (c .before .before .before .before .loop .inv .0, let all = c .before .before .before .before .loop .inv .3 in omega arith)
+turn-requires c κs = let at = c .before .before .before .before .loop in let all = at .inv .3 in (at .inv .0, omega arith)
 
 turns-left-requires : tie.Need-turns-left-requires Inv-loop μ-loop
-turns-left-requires c κs = c .before .before .before .before .before .before .before .before .loop-test .taken
+turns-left-requires c κs = let turned = c .before .before .before .before in turned .before .before .before .before .loop-test .taken
 
 loop-less : tie.Need-loop-less Inv-loop μ-loop
 loop-less c = c .turns-left .ensures
 
 loop-again : tie.Need-loop-again Inv-loop μ-loop
-loop-again c = (c .before .before .before .before .before .turn .ensures, c .before .before .before .before .before .turn .kept .1 .0 ∙ c .before .before .before .before .before .before .before .before .before .before .loop .inv .1, c .before .before .before .before .before .turn .kept .1 .1 .0 ∙ c .before .before .before .before .before .before .before .before .before .before .loop .inv .2, c .before .before .before .before .before .turn .kept .1 .1 .1 .0 ∙ c .before .before .before .before .before .before .before .before .before .before .loop .inv .3)
+loop-again c =
+    let turned = c .before .before .before .before .before in
+    let at = turned .before .before .before .before .before .loop in (
+      turned .turn .ensures,
+      turned .turn .kept .1 .1 .0 ∙ at .inv .1,
+      turned .turn .kept .1 .1 .1 .0 ∙ at .inv .2,
+      turned .turn .kept .1 .1 .1 .1 .0 ∙ at .inv .3,
+    )
 
 slice-aggregate-finish : tie.Need-slice-aggregate-finish Inv-loop μ-loop
 slice-aggregate-finish c = sym (c .before .before .loop .inv .1)
@@ -59,17 +67,22 @@ finish-requires c κs = tt
 array-share-prefix-out : tie.Need-array-share-prefix-out Inv-loop μ-loop
 array-share-prefix-out c = let few = c .before .finish .ensures .1 in omega arith
 
-slice-aggregate-write-all : tie.Need-slice-aggregate-write-all Inv-loop μ-loop
-slice-aggregate-write-all c = sym (length-take-le (c .before .before .finish .result) (c .before .before .finish .last .1 .1 .0) (let few = c .before .before .finish .ensures .1 in let all = c .before .before .finish .kept .1 .1 .0 in let size = c .before .before .before .before .before .before .loop .inv .3 in omega arith))
+slice-aggregate-write : tie.Need-slice-aggregate-write Inv-loop μ-loop
+slice-aggregate-write c =
+    let finished = c .before .before in
+    let few = finished .finish .ensures .1 in
+    let all = finished .finish .kept .1 .1 .0 in
+    let size = finished .before .before .before .before .loop .inv .3 in
+    sym (length-take-le (finished .finish .result) (finished .finish .last .1 .1 .0) (omega arith))
 
-write-all-requires : tie.Need-write-all-requires Inv-loop μ-loop
-write-all-requires c κs = tt
+write-requires : tie.Need-write-requires Inv-loop μ-loop
+write-requires c κs = tt
 
 returns : tie.Need-returns Inv-loop μ-loop
 returns c = tt
 
-pub main-spec : {M : Type 1} → statement M
-main-spec =
+pub answer-spec : {M : Type 1} → statement M
+answer-spec =
     tie.close
     (tie.spec
     Inv-loop
@@ -89,6 +102,6 @@ main-spec =
     slice-aggregate-finish-2
     finish-requires
     array-share-prefix-out
-    slice-aggregate-write-all
-    write-all-requires
+    slice-aggregate-write
+    write-requires
     returns)
