@@ -7,13 +7,13 @@
  * What a call returns: 0, or the number of a refusal (UVALINDA_AREA_LIMIT and so on), or UVALINDA_SHORT_RESULT.
  *
  * What a call writes: its values go to the first places of `result` (of `blocks`, for a fill), in the order given with each call. At a refusal
- * each of them is 0 (but for the area in force, see uvalinda_handle_line), and a table is left as it was. Places behind the values are never
+ * each of them is 0 (but for the area in force, see uvalinda_handle_line), and a table is left as it was. Places after the values are never
  * written. Where there are fewer places than values, the call writes nothing, fills nothing and returns UVALINDA_SHORT_RESULT.
  *
  * Who owns what: every pointer is lent for the time of the call. The library keeps nothing, allocates nothing and has no state, so calls from
- * several threads do not disturb each other; a fill or a check of the largest area takes under 8 KB of stack on x86-64. A pointer is followed by its length, in places (in bytes, for a line), and may be null where that
- * length is 0. What the caller has to see to, since C cannot: a pointer has as many places as its length says, and what is written to overlaps
- * nothing else that the same call was lent.
+ * several threads do not disturb each other; a fill or a check of the largest area takes under 8 KB of stack on x86-64. A pointer is followed by its
+ * length, in places (in bytes, for a line), and may be null where that length is 0. What the caller has to see to, since C cannot: a pointer has as
+ * many places as its length says, and what is written to overlaps nothing else that the same call was lent.
  *
  * Example: where is number 8 of a 3 by 4 area?
  *
@@ -30,6 +30,8 @@
 
 #include <stddef.h>
 #include <stdint.h>
+
+#define UVALINDA_VERSION "1.0.0"
 
 #ifdef __cplusplus
 extern "C" {

@@ -21,9 +21,10 @@ fn named(folder: PathBuf) -> PathBuf {
 
 fn built(root: &Path) -> PathBuf {
     assert_eq!(env::var("HOST"), env::var("TARGET"), "for another machine than this one, name a folder with its libuvalinda.a in UVALINDA_ARCHIVE");
-    for source in ["crates", "crates.txt", "tools/native-lib"] {
+    for source in ["crates", "crates.txt", "tools/native-lib", "tools/prove"] {
         println!("cargo:rerun-if-changed={}", root.join(source).display());
     }
+    println!("cargo:warning=proving and building the Uvalinda library: three to five minutes the first time, seconds after that");
     let folder = PathBuf::from(env::var("OUT_DIR").unwrap());
     let run = Command::new("bash").arg(root.join("tools/native-lib")).arg("exports").arg(folder.join("libuvalinda.a")).status();
     assert!(run.is_ok_and(|status| status.success()), "tools/native-lib could not build the library");

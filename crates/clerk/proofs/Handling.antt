@@ -1,4 +1,4 @@
--- A reply from a library call's figures, and the clerk behind a line.
+-- A reply from a library call's figures, and the clerk after a line.
 use mathlib.Core.Bool.{Bool, true, false}
 use mathlib.Core.List.{List, [], _∷_}
 use mathlib.Core.Path.{_≡_, refl, sym, ap, _∙_}
@@ -48,7 +48,7 @@ found-fits w h x y e = by (accepted w h) refl
         let found : 0 ≡ finish-square w h .refusal = ap (λ f. f .refusal) e in
         absurd (omega arith)
 
--- the clerk behind a refused line, which begins with AREA or does not, and behind one that asks
+-- the clerk after a refused line, which begins with AREA or does not, and after one that asks
 module _ (clerk : Clerk) {begins : Bool} {q : Request} {r : Refusal} (is : q ≡ Refused r) where
   pub left-none : begins ≡ true → NoArea ≡ spec.left-by clerk begins q
   left-none e = sym (ap (spec.left-by clerk begins) is ∙ rw e refl)

@@ -78,7 +78,7 @@ abbrev held : Clerk → ℕ
 held NoArea = 0
 held (InForce area) = 1
 
--- Turned away: a clerk that keeps the former area behind a refused AREA line, here AREA 0 4.
+-- Turned away: a clerk that keeps the former area after a refused AREA line, here AREA 0 4.
 pub keeps-the-former : ((clerk : Clerk) (line : List ℕ) → spec.begins-area line ≡ true → clerk ≡ spec.after clerk line) → ⊥
 unfolding spec.after request shaped fields same-bytes numeral is-number all-digits value-on accepted
 keeps-the-former promise =

@@ -56,7 +56,7 @@ in-force area = cond (accepted (area .w) (area .h)) (InForce area) NoArea
 abbrev pub begins-area : List ℕ → Bool
 begins-area line = begins line AREA
 
--- The clerk behind a line, by what the line asks and whether it begins with AREA.
+-- The clerk after a line, by what the line asks and whether it begins with AREA.
 abbrev pub left-by : Clerk → (begins : Bool) → Requests.Request → Clerk
 -- "An accepted AREA line sets the area for the lines below it." One that is refused for its area leaves none.
 left-by clerk begins (Requests.the-variants.SetArea w h) = in-force (record { w = w; h = h })

@@ -38,7 +38,7 @@ pub enum Reply {
     Refused(Refusal),
 }
 
-// The clerk behind a line, and the reply to it.
+// The clerk after a line, and the reply to it.
 pub struct Handled {
     pub clerk: Clerk,
     pub reply: Reply,
@@ -115,7 +115,7 @@ pub fn clerk_under(area: Area) -> Clerk
     Clerk::NoArea
 }
 
-// The clerk behind a line.
+// The clerk after a line.
 fn clerk_after(clerk: Clerk, line: &[u8], asked: Request) -> Clerk
     ensures { λ r. ⌜ r ≡ left-by clerk (begins-area (now (line .entry))) asked ⌝ }
 {

@@ -1,4 +1,4 @@
--- A program's calls of `feed` and `finish` are the steps of a run: what they wrote, one behind the other, is what is printed for the input, and so by
+-- A program's calls of `feed` and `finish` are the steps of a run: what they wrote, one after the other, is what is printed for the input, and so by
 -- `whole-printed` the output of it. What a call wrote stands in its output from the place that it was given to the place that it returned.
 use mathlib.Core.Bool.{Bool, true, false, cond}
 use mathlib.Core.List.{List, [], _∷_, _++_}
@@ -17,7 +17,7 @@ use Rattle.desk.specs.Steps.{prints-last, Result, still, fed, in-order, 
 use Rattle.desk.specs.Runs.{Printed, ended, closed, piece-fed}
 use Rattle.desk.proofs.Bytes.{all-written, writes-as}
 
--- behind the end of an output nothing is printed
+-- after the end of an output nothing is printed
 none-behind : (d : Desk) (kept : List ℕ) (at size : ℕ) (bytes : List ℕ) → size < at → fed-any d kept at size bytes .printed ≡ []
 unfolding fed
 none-behind d kept at size bytes l = by (in-order d kept)

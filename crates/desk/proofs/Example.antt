@@ -96,7 +96,7 @@ cut : lines-of (bytes input) ≡ the-lines
 unfolding lines-of
 cut = refl
 
--- what is said of each, and the texts of that one behind the other
+-- what is said of each, and the texts of that one after the other
 abbrev said : ℕ → Said
 said n =
     cond (eqb n 1) (says Area-set (3 ∷ 4 ∷ 12 ∷ 2 ∷ 0 ∷ []))

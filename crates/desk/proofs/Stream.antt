@@ -1,5 +1,5 @@
 -- What a desk prints, byte by byte and piece by piece, is what the definition over the whole input says. At every byte, what is due of the rest of the
--- input is what the byte prints and what is due behind it.
+-- input is what the byte prints and what is due after it.
 use mathlib.Core.Bool.{Bool, true, false, cond}
 use mathlib.Core.List.{List, [], _∷_, _++_, append-assoc, append-nil}
 use mathlib.Core.Path.{_≡_, refl, sym, ap, ap₂, subst, _∙_}
@@ -53,7 +53,7 @@ same-answers clerk n l m ls e =
     (sym (reply-kept l clerk) ∙ ap (reply clerk) e ∙ reply-kept m clerk)
     (sym (after-kept l clerk) ∙ ap (after clerk) e ∙ after-kept m clerk)
 
--- a byte behind the first 65 of a line changes nothing
+-- a byte after the first 65 of a line changes nothing
 long-enough : (clerk : Clerk) (n : ℕ) (g : List ℕ) (b : ℕ) (ls : List (List ℕ)) → length g ≡ 65 → answers clerk n (joined (g ++ (b ∷ [])) ls) ≡ answers clerk n (joined g ls)
 unfolding joined
 long-enough clerk n [] b ls e = absurd (omega arith)
@@ -83,7 +83,7 @@ module _ (d : Desk) (kept : List ℕ) (b : ℕ) (rest : List ℕ) (few : d .begu
   abbrev Due : Type 0
   Due = pending d kept (b ∷ rest) ≡ prints d kept b ++ pending (next-desk d kept b) (next-kept d kept b) rest
 
-  -- what is due behind a byte, in the words of its case
+  -- what is due after a byte, in the words of its case
   due-as : {d′ : Desk} {kept′ printed : List ℕ} → (d′ ≡ next-desk d kept b) × (kept′ ≡ next-kept d kept b) × (printed ≡ prints d kept b)
       → pending d kept (b ∷ rest) ≡ printed ++ pending d′ kept′ rest → Due
   due-as is e = e ∙ (λ j. is .2 j ++ pending (is .0 j) (is .1 j) rest)
@@ -125,7 +125,7 @@ module _ (d : Desk) (kept : List ℕ) (b : ℕ) (rest : List ℕ) (few : d .begu
       (joined-byte (begun-line d kept) b (lines-of rest)
       ∙ ap (λ g. joined g (lines-of rest)) (sym (ap (λ n. take n (set kept (d .begun) b)) on ∙ take-suc-set kept (d .begun) b (omega arith))))))
 
-  -- at every byte, what is due is what it prints and what is due behind it
+  -- at every byte, what is due is what it prints and what is due after it
   byte-due : Due
   byte-due = by (d .over) refl
     where

@@ -20,7 +20,7 @@ begun-line d kept = take (d .begun) kept
 abbrev pub at-first : Desk
 at-first = record { clerk = NoArea; line = 1; begun = 0; over = false }
 
--- The desk behind the first byte of a line 65,536; behind a newline; behind another byte, with what is then kept.
+-- The desk after the first byte of a line 65,536; after a newline; after another byte, with what is then kept.
 abbrev pub stopped : Desk → Desk
 stopped d = record { clerk = d .clerk; line = d .line; begun = d .begun; over = true }
 
@@ -33,7 +33,7 @@ longer d = cond (ltb 64 (d .begun)) d (record { clerk = d .clerk; line = d .line
 abbrev pub with-byte : Desk → (kept : List ℕ) → (b : ℕ) → List ℕ
 with-byte d kept b = cond (ltb 64 (d .begun)) kept (set kept (d .begun) b)
 
--- The desk, what is kept, and what is printed, behind a byte.
+-- The desk, what is kept, and what is printed, after a byte.
 abbrev pub next-desk : Desk → (kept : List ℕ) → (b : ℕ) → Desk
 next-desk d kept b = cond (d .over) d (cond (ltb 65535 (d .line)) (stopped d) (cond (eqb b 10) (behind-newline d kept) (longer d)))
 

@@ -21,7 +21,7 @@ pub struct Desk {
     pub over: bool,
 }
 
-// The desk behind a byte, and the place behind what was written.
+// The desk after a byte, and the place after what was written.
 struct Stepped {
     desk: Desk,
     at: usize,
@@ -71,7 +71,7 @@ fn keep(desk: Desk, kept: &mut [u8], b: u8) -> Desk
     }
 }
 
-// The clerk behind a line, and the place behind the reply to it.
+// The clerk after a line, and the place after the reply to it.
 struct Told {
     clerk: Clerk,
     at: usize,
@@ -139,7 +139,7 @@ fn step(desk: Desk, kept: &mut [u8], b: u8, out: &mut [u8], at: usize) -> Steppe
     Stepped { desk: next, at: at }
 }
 
-// The desk behind as many bytes of a chunk as there was room to answer, the next of them, and the place behind what was written.
+// The desk after as many bytes of a chunk as there was room to answer, the next of them, and the place after what was written.
 pub struct Fed {
     pub desk: Desk,
     pub from: usize,

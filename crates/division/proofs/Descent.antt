@@ -1,4 +1,4 @@
--- From a block down into one of its parts: the part's numbers stand in the block's behind those of the parts before it, and one more block
+-- From a block down into one of its parts: the part's numbers stand in the block's after those of the parts before it, and one more block
 -- holds each of its squares. What a lookup does at each step.
 use mathlib.Core.Bool.{true}
 use mathlib.Core.List.{List, [], _∷_, _++_, map, flatten}

@@ -227,7 +227,7 @@ lies-within : (j : Block) (s : Square) (lies : Lies (j .a) (j .b) s) → Within 
 unfolding whole
 lies-within j s lies = subst⁻¹ (λ (k : Block). Within (k .a) (k .b) (lies .there)) (part-whole j (lies .name)) (lies .within)
 
--- in a cut block the number is what the part says, behind the parts before it, and one block more holds the square
+-- in a cut block the number is what the part says, after the parts before it, and one block more holds the square
 module _ (w h : ℕ) (j : Block) (i : Inside w h j) (two : 2 ≤ j .b) (s : Square) (lies : Lies (j .a) (j .b) s) where
   pub lies-inside : Inside w h (part (lies .name) j)
   lies-inside = part-inside w h j i (map (λ p. part p j) (lies .before)) (part (lies .name) j) (map (λ p. part p j) (lies .after)) (lies-parts j s lies)

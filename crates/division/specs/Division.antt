@@ -1,6 +1,17 @@
 -- The division of a rectangle, and the curve through its squares: document 01, "The division of a rectangle" and, for squares and numbers,
 -- "What is bought", in the first one's order and in their words, one definition under each sentence. Lengths, coordinates and numbers are natural
 -- numbers.
+--
+-- The two cuts of a block that runs to the right, with its side upwards. An arrow is the way in which a part runs.
+--
+--     +-----------+-----------+         +-----------------------+
+--     |           |           |         |          B -->        |   b - e
+--     |  First    |  Second   |         +-----------+-----------+
+--     |   -->     |    -->    |   b     |           |           |
+--     |           |           |         |    A  ^   |   C  |    |   e
+--     +-----------+-----------+         |       |   |      v    |
+--       even half   the rest            +-----------+-----------+
+--       of a        of a                      m         a - m
 use mathlib.Core.Bool.{Bool, true, false, _&&_, cond}
 use mathlib.Core.List.{List, [], _∷_, map, flatten}
 use Prim.Native.Nat.{ℕ, zero, suc, _+_, _-_, _*_, _/_, _%_}

@@ -47,7 +47,7 @@ module _ (w h : ℕ) (t : List ℕ) (size : length t ≡ w * h) where
       let ok = number-asked w h n (x ∷ y ∷ k ∷ []) (square-back w h x y n k e) .0 in
       ap (λ ds. getD ds (y * w + x) 0) (filled-so w h t (by-square w h) (that-length-filled w h t ok size)) ∙ by-square-due w h x y n k e
 
--- "the number, all else 0", of a line: behind the area in force stand zeros where the line is refused.
+-- "the number, all else 0", of a line: after the area in force stand zeros where the line is refused.
 pub refused-rest-0 : (clerk : Clerk) (line : List ℕ) → reply clerk line .word ≡ Refused → drop 2 (handled-by clerk line .values) ≡ replicate 4 0
 refused-rest-0 clerk line e = ap (λ word. shown word (reply clerk line .numbers)) e
 

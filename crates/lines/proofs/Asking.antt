@@ -21,7 +21,7 @@ use Rattle.lines.proofs.Decimals.{read-back, only-text, reads, ten-digi
 use Rattle.lines.proofs.Shapes.{same-true}
 use Rattle.lines.proofs.Sequence.{rest, fields-are}
 
--- A word with one number, and with two, behind it: the lines `N i`, `AREA w h` and `S x y`, spelt.
+-- A word with one number, and with two, after it: the lines `N i`, `AREA w h` and `S x y`, spelt.
 abbrev pub with-one : List ℕ → ℕ → List ℕ
 with-one known n = known ++ (32 ∷ decimal n)
 

@@ -56,7 +56,7 @@ few-digits (suc k) n l = by (ltb n 10) refl (few-digits k (n / 10))
 pub ten-digits : (n : ℕ) → n < 4294967296 → length (decimal n) ≤ 10
 ten-digits n l = few-digits 9 n (omega arith)
 
--- digits read one behind the other
+-- digits read one after the other
 value-append : (n : ℕ) (f g : List ℕ) → value-on n (f ++ g) ≡ value-on (value-on n f) g
 unfolding value-on
 value-append n [] g = refl

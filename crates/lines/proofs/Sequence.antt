@@ -1,5 +1,5 @@
--- The fields that are taken one behind the other are the line's, in order: what is left of the line's fields at a place is the field there and what is
--- left behind it. So the first three of them make of a line what its shape says.
+-- The fields that are taken one after the other are the line's, in order: what is left of the line's fields at a place is the field there and what is
+-- left after it. So the first three of them make of a line what its shape says.
 use mathlib.Core.Bool.{Bool, true, false, cond}
 use mathlib.Core.List.{List, [], _∷_}
 use mathlib.Core.Path.{_≡_, refl, sym, ap, ap₂, _∙_}
@@ -95,14 +95,14 @@ module _ (line : List ℕ) (short : length line < none) where
     from-here : from at ≡ piece line (field-at line at) ∷ from (field-at line at .next)
     from-here = rw (le-leb at (length line) l) (fields-are left) ∙ ap₂ (λ w ws. w ∷ ws) (sym piece-is) rest-is
 
-  -- a place behind the last field has none, and none behind it
+  -- a place after the last field has none, and none after it
   past : (at : ℕ) → length line < at → (field-at line at .end ≡ at) × (field-at line at .next ≡ none)
   unfolding field-at
   past at l =
       let is = end-past line at (omega arith) in
       (is, rw (is, le-ltb at (length line) (omega arith)) refl)
 
-  -- a field within the line is its last one, or the next begins behind a space
+  -- a field within the line is its last one, or the next begins after a space
   last : (at : ℕ) → at ≤ length line → ltb (field-at line at .end) (length line) ≡ false → (field-at line at .end ≡ length line) × (field-at line at .next ≡ none)
   unfolding field-at
   last at l e =

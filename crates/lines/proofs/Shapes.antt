@@ -1,4 +1,4 @@
--- A field and a word compared byte by byte, and what the fields behind the word make of a line.
+-- A field and a word compared byte by byte, and what the fields after the word make of a line.
 use mathlib.Core.Bool.{true, false, _&&_, and-false, or-true, and-eq-true-iff}
 use mathlib.Core.List.{List, [], _∷_}
 use mathlib.Core.Path.{_≡_, refl, sym, ap, ap₂, _∙_}
@@ -55,7 +55,7 @@ module _ (s t : List ℕ) (i : ℕ) where
 pub too-short : (line known : List ℕ) → length line < length known → false ≡ begins line known
 too-short line known l = sym (other-length (take (length known) line) known (λ e. let size = length-take (length known) line in omega arith))
 
--- the fields behind the word
+-- the fields after the word
 empty : (s : List ℕ) → length s < 1 → is-empty s ≡ true
 empty [] l = refl
 empty (b ∷ s) l = absurd (omega arith)

@@ -71,7 +71,7 @@ same-bytes (a ∷ cs) (b ∷ bs) = eqb a b && same-bytes cs bs
 abbrev pub begins : (line word : List ℕ) → Bool
 begins line word = same-bytes (take (length word) line) word
 
--- What a known word asks with the one field, or the two, behind it: an empty field is refusal 6, and one that is not a number refusal 5.
+-- What a known word asks with the one field, or the two, after it: an empty field is refusal 6, and one that is not a number refusal 5.
 abbrev pub is-empty : List ℕ → Bool
 is-empty [] = true
 is-empty (b ∷ bs) = false
@@ -110,7 +110,7 @@ shaped (word ∷ a ∷ b ∷ c ∷ fs) = Refused WrongShape
 unfoldable pub request : List ℕ → Request
 request line = cond (leb (length line) 64) (shaped (fields line)) (Refused LongLine)
 
--- A request on paper: the refusal's number, 0 for none, the first word of its shape, and the numbers behind it. "5, 6, 8: the number, all else 0": where it
+-- A request on paper: the refusal's number, 0 for none, the first word of its shape, and the numbers after it. "5, 6, 8: the number, all else 0": where it
 -- is refused there is no word, and there are no numbers.
 pub record Asked : Type 0 where
   pub refusal : ℕ

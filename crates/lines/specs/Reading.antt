@@ -37,7 +37,7 @@ made-of-three line a b c =
     cond (eqb (b .end) (length line)) (two-fields (piece line a) (piece line b))
     (cond (eqb (c .end) (length line)) (three-fields (piece line a) (piece line b) (piece line c)) (Refused WrongShape))
 
--- The first three fields of a line, one behind the other, and what they make of it.
+-- The first three fields of a line, one after the other, and what they make of it.
 unfoldable pub three-read : List ℕ → Request
 three-read line =
     let a = field-at line 0 in

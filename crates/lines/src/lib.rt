@@ -92,7 +92,7 @@ fn taken<'a>(r: Reader<'a>) -> Field
     field_at(r.line, r.at)
 }
 
-// The reader behind a field.
+// The reader after a field.
 fn behind<'a>(r: Reader<'a>, f: Field) -> Reader<'a>
     ensures { λ q. ⌜ (q .line ≡ r .entry .line) × (q .at ≡ f .next) ⌝ }
 {
@@ -142,7 +142,7 @@ fn digits_value(s: &[u8]) -> u64
     v
 }
 
-// Whether a field has a first byte, which is not a 0 with others behind it.
+// Whether a field has a first byte, which is not a 0 with others after it.
 fn begins_well(s: &[u8]) -> bool
     ensures { λ r. ⌜ r ≡ (leb 1 (length (now (s .entry))) && well-begun (now (s .entry))) ⌝ }
 {
@@ -198,7 +198,7 @@ pub fn begins_with(line: &[u8], word: &[u8]) -> bool
     is_word(&line[..n], word)
 }
 
-// What a line asks with one number behind its word.
+// What a line asks with one number after its word.
 fn with_one(a: &[u8]) -> Request
     ensures { λ r. ⌜ r ≡ of-one AskNumber (now (a .entry)) ⌝ }
 {
@@ -211,7 +211,7 @@ fn with_one(a: &[u8]) -> Request
     }
 }
 
-// What a line asks with two numbers behind its word. Both fields have to be there before either is read.
+// What a line asks with two numbers after its word. Both fields have to be there before either is read.
 fn with_two(a: &[u8], b: &[u8], sets: bool) -> Request
     ensures { λ r. ⌜ r ≡ of-two (cond sets SetArea AskSquare) (now (a .entry)) (now (b .entry)) ⌝ }
 {

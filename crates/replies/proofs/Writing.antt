@@ -1,4 +1,4 @@
--- Bytes written one behind the other, and the room for them.
+-- Bytes written one after the other, and the room for them.
 use mathlib.Core.Bool.{Bool, true, false}
 use mathlib.Core.List.{List, [], _∷_, _++_}
 use mathlib.Core.Path.{_≡_, refl, sym, ap, ap₂, _∙_}
@@ -17,7 +17,7 @@ sets-append t i (x ∷ xs) ys =
     let on : suc i + length xs ≡ i + suc (length xs) = omega arith in
     sets-append (set t i x) (suc i) xs ys ∙ ap (λ n. sets (sets (set t i x) (suc i) xs) n ys) on
 
--- one piece of text behind another
+-- one piece of text after another
 pub writes-both : {t t′ t″ xs ys : List ℕ} {i m n : ℕ} → Writes t i xs t′ m → Writes t′ m ys t″ n → Writes t i (xs ++ ys) t″ n
 writes-both {t} {t′} {t″} {xs} {ys} {i} first second =
     let all = length-append xs ys in
@@ -55,7 +55,7 @@ writes-all {t} {t′} {at} s i e w =
 pub writes-none : (t : List ℕ) (i : ℕ) → Writes t i [] t i
 writes-none t i = record { written = refl; behind = sym (add-zero i) }
 
--- room behind a place, tested without a sum that could be too large
+-- room after a place, tested without a sum that could be too large
 pub room-is : (at n : ℕ) → at ≤ n → leb longest (n - at) ≡ leb (at + longest) n
 room-is at n l = by (leb longest (n - at)) refl
   where

@@ -40,7 +40,7 @@ stop line = decimal line ++ bytes " STOP\n"
 abbrev pub longest : ℕ
 longest = 71
 
--- A buffer with bytes written at a place, and the place behind them.
+-- A buffer with bytes written at a place, and the place after them.
 pub record Writes (before : List ℕ) (at : ℕ) (bytes after : List ℕ) (end : ℕ) : Type 0 where
   pub written : after ≡ sets before at bytes
   pub behind : end ≡ at + length bytes

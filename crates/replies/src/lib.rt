@@ -133,7 +133,7 @@ fn put_stop(out: &mut [u8], at: usize, line: u32) -> usize
     put_bytes(out, a, &word[..])
 }
 
-// Whether a buffer has room for the longest text behind a place.
+// Whether a buffer has room for the longest text after a place.
 pub fn has_room(out: &[u8], at: usize) -> bool
     ensures { λ r. ⌜ r ≡ leb (at + longest) (length (now (out .entry))) ⌝ }
 {
@@ -143,7 +143,7 @@ pub fn has_room(out: &[u8], at: usize) -> bool
     LONGEST <= out.len() - at
 }
 
-// Writes the reply to a line at a place of a buffer, and says which place is behind it. Nothing is written if the longest text would not fit.
+// Writes the reply to a line at a place of a buffer, and says which place is after it. Nothing is written if the longest text would not fit.
 pub fn write_reply(out: &mut [u8], at: usize, line: u32, reply: Reply) -> usize
     ensures { λ r. ⌜ Writes (now (out .entry)) at (if-room (now (out .entry)) at (text line (said reply))) (now (out .exit)) r × (r ≤ at + longest) ⌝ }
 {

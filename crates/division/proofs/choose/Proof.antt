@@ -1,4 +1,4 @@
--- `division::choose` meets its contract: each return has the tests of the choice rule behind it, in the rule's order.
+-- `division::choose` meets its contract: each return comes after the tests of the choice rule, in the rule's order.
 use borrow.Author.Needs.{needs}
 use borrow.Author.Tests.{eq-eqb, ne-eqb, lt-ltb, le-ltb}
 use Rattle.division.specs.Division.{choice}

@@ -1,4 +1,4 @@
--- `exports::uvalinda_handle_line` meets its contract: the clerk's reply and the area behind it, told.
+-- `exports::uvalinda_handle_line` meets its contract: the clerk's reply and the area after it, told.
 use borrow.Author.Needs.{needs}
 use Rattle.exports.specs.Handling.{handled}
 use Rattle.exports.proofs.Values.{short, answer, handled-as}

@@ -1,4 +1,4 @@
--- `lines::field_at` meets its contract: the next field begins behind a space, if there is one.
+-- `lines::field_at` meets its contract: the next field begins after a space, if there is one.
 use borrow.Author.Needs.{needs}
 use native.Mathlib.Omega.{arith}
 use Rattle.lines.proofs.Words.{one-more, no-more}

@@ -1,4 +1,4 @@
--- `lines::read` meets its contract: a walk of its MIR, by hand. A reader is made over the line, and takes three fields, each behind the one before; `judge` is called on the line and the three. All that the proof knows of `over`, `taken`, `behind` and `judge` is that each meets its contract.
+-- `lines::read` meets its contract: a walk of its MIR, by hand. A reader is made over the line, and takes three fields, each after the one before; `judge` is called on the line and the three. All that the proof knows of `over`, `taken`, `behind` and `judge` is that each meets its contract.
 -- Each contract says its whole result, so each result is written as the record that it is. A reader is Copy: what it owns is had twice where it is passed and used again. A field owns only facts, which are made anew for each call. In a local of a body MIR erases the lifetime of the reader's type: what a reader owns does not say the lifetime's name.
 use mathlib.Core.Path.{_≡_, refl, _∙_}
 use Prim.Native.Nat.{ℕ}

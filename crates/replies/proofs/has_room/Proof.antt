@@ -1,4 +1,4 @@
--- `replies::has_room` meets its contract: room behind a place is tested by a difference, since a sum could be too large.
+-- `replies::has_room` meets its contract: room after a place is tested by a difference, since a sum could be too large.
 use borrow.Author.Needs.{needs}
 use mathlib.Core.Path.{sym}
 use Prim.Native.Nat.{_+_}

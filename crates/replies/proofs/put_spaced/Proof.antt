@@ -1,4 +1,4 @@
--- `replies::put_spaced` meets its contract: a byte and behind it a number, which has at most ten digits.
+-- `replies::put_spaced` meets its contract: a byte and after it a number, which has at most ten digits.
 use borrow.Author.Needs.{needs}
 use mathlib.Core.Path.{_∙_}
 use native.Mathlib.Omega.{arith}

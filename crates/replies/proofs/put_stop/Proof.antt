@@ -1,4 +1,4 @@
--- `replies::put_stop` meets its contract: the line's number, of at most ten digits, and behind it the word.
+-- `replies::put_stop` meets its contract: the line's number, of at most ten digits, and after it the word.
 use borrow.Author.Needs.{needs}
 use native.Mathlib.Omega.{arith}
 use Rattle.replies.specs.Text.{stop}
