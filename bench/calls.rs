@@ -4,6 +4,7 @@
 mod random;
 #[path = "../bindings/rust/src/raw.rs"]
 mod raw;
+mod strong;
 mod versions;
 
 use random::{Lines, Random};
@@ -128,20 +129,23 @@ fn index_fill(table: &mut [u32]) {
     }
 }
 
-// The least time a square of fill and check, in the library and in Rust, and of writing the index.
-fn least_of_tables(w: u32, h: u32, by_square: bool) -> [f64; 5] {
+// The least time a square of fill and check, in the library and in Rust, of the best fill in Rust, and of writing the index.
+fn least_of_tables(w: u32, h: u32, by_square: bool) -> [f64; 6] {
     let n = w as usize * h as usize;
     let (mut ours, mut theirs, mut index) = (vec![0; n], vec![0; n], vec![0; n]);
     assert_eq!(fill(w, h, &mut ours, by_square), versions::fill(w, h, &mut theirs, by_square));
     assert_eq!(ours, theirs);
+    assert_eq!(strong::fill(w, h, &mut index, by_square), fill(w, h, &mut ours, by_square));
+    assert_eq!(ours, index);
     ours[n / 2] += 1;
     assert_eq!(check(w, h, &ours, by_square), Ok(Some((n as u32 / 2, theirs[n / 2]))));
     assert_eq!(check(w, h, &ours, by_square), versions::check(w, h, &ours, by_square));
-    let mut best = [f64::MAX; 5];
+    let mut best = [f64::MAX; 6];
     for _ in 0..if n < 1_000_000 { 50 } else { 7 } {
         let round = [
             time(n, || _ = black_box(fill(w, h, black_box(&mut ours), by_square))),
             time(n, || _ = black_box(versions::fill(w, h, black_box(&mut theirs), by_square))),
+            time(n, || _ = black_box(strong::fill(w, h, black_box(&mut theirs), by_square))),
             time(n, || assert_eq!(check(w, h, black_box(&ours), by_square), Ok(None))),
             time(n, || assert_eq!(versions::check(w, h, black_box(&theirs), by_square), Ok(None))),
             time(n, || index_fill(black_box(&mut index))),
@@ -155,12 +159,13 @@ fn least_of_tables(w: u32, h: u32, by_square: bool) -> [f64; 5] {
 
 fn tables() {
     println!("\n### Tables\n\nNanoseconds a square, the least of seven rounds or more over the whole area.\n");
-    println!("| area | kind | fill | Rust fill | ratio | to writing the index | check | Rust check | ratio |\n|---|---|---|---|---|---|---|---|---|");
+    println!("| area | kind | fill | Rust fill | ratio | best Rust fill | ratio | to writing the index | check | Rust check | ratio |");
+    println!("|---|---|---|---|---|---|---|---|---|---|---|");
     for (w, h) in [(64, 64), (256, 256), (1024, 1024), (4096, 4096), (8192, 8192), (4095, 4097), (3000, 5000)] {
         for (by_square, kind) in [(false, "by number"), (true, "by square")] {
-            let [fill, rust_fill, check, rust_check, index] = least_of_tables(w, h, by_square);
-            let (fill_ratio, check_ratio, to_index) = (fill / rust_fill, check / rust_check, fill / index);
-            println!("| {w} by {h} | {kind} | {fill:.2} | {rust_fill:.2} | {fill_ratio:.2} | {to_index:.2} | {check:.2} | {rust_check:.2} | {check_ratio:.2} |");
+            let [fill, rust, strong, check, rust_check, index] = least_of_tables(w, h, by_square);
+            print!("| {w} by {h} | {kind} | {fill:.2} | {rust:.2} | {:.2} | {strong:.2} | {:.2} | {:.2} ", fill / rust, fill / strong, fill / index);
+            println!("| {check:.2} | {rust_check:.2} | {:.2} |", check / rust_check);
         }
     }
 }

@@ -1,0 +1,69 @@
+// The best fill in safe Rust that we could write, to measure the library against: a square is one linear address, a direction a stride between addresses,
+// the kind is known when it is compiled, and blocks 2 wide and 2 or 3 deep are taken at once.
+
+fn even_half(length: u32) -> u32 {
+    let half = length / 2;
+    if length > 2 && half % 2 == 1 { half + 1 } else { half }
+}
+
+fn moved(place: u32, stride: i32, n: u32) -> u32 {
+    place.wrapping_add_signed(stride.wrapping_mul(n as i32))
+}
+
+// Enters a square by its number and its place.
+fn enter<const BY_SQUARE: bool>(table: &mut [u32], number: u32, place: u32) {
+    if BY_SQUARE { table[place as usize] = number } else { table[number as usize] = place }
+}
+
+fn straight<const BY_SQUARE: bool>(table: &mut [u32], number: u32, place: u32, stride: i32, length: u32) {
+    let mut place = place;
+    for number in number..number + length {
+        enter::<BY_SQUARE>(table, number, place);
+        place = moved(place, stride, 1);
+    }
+}
+
+// Up the side of a block 2 wide and down again.
+fn leaf<const BY_SQUARE: bool>(table: &mut [u32], number: u32, place: u32, run: i32, side: i32, deep: u32) {
+    straight::<BY_SQUARE>(table, number, place, side, deep);
+    straight::<BY_SQUARE>(table, number + deep, moved(moved(place, run, 1), side, deep - 1), -side, deep);
+}
+
+// Fills a block of a run and b side from its first number and place on, and counts the blocks of its division.
+fn walk<const BY_SQUARE: bool>(table: &mut [u32], number: u32, place: u32, run: i32, side: i32, a: u32, b: u32) -> u64 {
+    if b == 1 {
+        straight::<BY_SQUARE>(table, number, place, run, a);
+        1
+    } else if a == 1 {
+        straight::<BY_SQUARE>(table, number, place, side, b);
+        1
+    } else if a == 2 && b == 2 {
+        leaf::<BY_SQUARE>(table, number, place, run, side, 2);
+        4
+    } else if a == 2 && b == 3 {
+        leaf::<BY_SQUARE>(table, number, place, run, side, 3);
+        4
+    } else if 2 * a > 3 * b {
+        let e = even_half(a);
+        1 + walk::<BY_SQUARE>(table, number, place, run, side, e, b)
+            + walk::<BY_SQUARE>(table, number + e * b, moved(place, run, e), run, side, a - e, b)
+    } else {
+        let (e, m) = (even_half(b), a / 2);
+        let corner = moved(moved(place, run, a - 1), side, e - 1);
+        1 + walk::<BY_SQUARE>(table, number, place, side, run, e, m)
+            + walk::<BY_SQUARE>(table, number + e * m, moved(place, side, e), run, side, a, b - e)
+            + walk::<BY_SQUARE>(table, number + e * m + a * (b - e), corner, -side, -run, e, a - m)
+    }
+}
+
+#[inline(never)]
+pub fn fill(w: u32, h: u32, table: &mut [u32], by_square: bool) -> Result<u64, u32> {
+    if !(1..=65535).contains(&w) || !(1..=65535).contains(&h) {
+        return Err(1);
+    }
+    if table.len() as u64 != w as u64 * h as u64 {
+        return Err(4);
+    }
+    let fill = if by_square { walk::<true> } else { walk::<false> };
+    Ok(fill(table, 0, 0, 1, w as i32, w, h))
+}
