@@ -112,7 +112,10 @@ fn answer_named(name: &[u8]) {
 // Answers an argument: a word that asks about the program, or the name of a form.
 fn answer_argument(word: &[u8]) {
     if lines::is_word(word, b"--help") {
-        write(b"orders [FORM]: answers the order lines of FORM, or of standard input, with a reply to each. See orders(1).\n", 0);
+        write(
+            b"orders [FORM]: answers the order lines of FORM, or of standard input, with a reply to each. See orders(1).\n",
+            0,
+        );
         return;
     }
     if lines::is_word(word, b"--version") {
@@ -120,7 +123,10 @@ fn answer_argument(word: &[u8]) {
         return;
     }
     if lines::begins_with(word, b"-") {
-        streams::write_whole(STDERR_FILENO, b"usage: orders [FORM | --help | --version]\n");
+        streams::write_whole(
+            STDERR_FILENO,
+            b"usage: orders [FORM | --help | --version]\n",
+        );
         return;
     }
     answer_named(word);
@@ -133,7 +139,10 @@ fn main() {
         return;
     }
     if 2 < count {
-        streams::write_whole(STDERR_FILENO, b"usage: orders [FORM | --help | --version]\n");
+        streams::write_whole(
+            STDERR_FILENO,
+            b"usage: orders [FORM | --help | --version]\n",
+        );
         return;
     }
     let mut word = io::buffer();
