@@ -109,24 +109,35 @@ fn answer_named(name: &[u8]) {
     libc::close(fd);
 }
 
+// Says something about the program itself, or tells that it cannot.
+fn say(text: &[u8]) {
+    if !streams::write_whole(STDOUT_FILENO, text) {
+        os::fail(b"orders: writing failed");
+    }
+}
+
+// Says how the program is called, where it was called otherwise.
+fn usage() {
+    streams::write_whole(
+        STDERR_FILENO,
+        b"usage: orders [FORM | --help | --version]\n",
+    );
+}
+
 // Answers an argument: a word that asks about the program, or the name of a form.
 fn answer_argument(word: &[u8]) {
     if lines::is_word(word, b"--help") {
-        write(
+        say(
             b"orders [FORM]: answers the order lines of FORM, or of standard input, with a reply to each. See orders(1).\n",
-            0,
         );
         return;
     }
     if lines::is_word(word, b"--version") {
-        write(b"orders 1.0.0\n", 0);
+        say(b"orders 1.0.0\n");
         return;
     }
     if lines::begins_with(word, b"-") {
-        streams::write_whole(
-            STDERR_FILENO,
-            b"usage: orders [FORM | --help | --version]\n",
-        );
+        usage();
         return;
     }
     answer_named(word);
@@ -139,10 +150,7 @@ fn main() {
         return;
     }
     if 2 < count {
-        streams::write_whole(
-            STDERR_FILENO,
-            b"usage: orders [FORM | --help | --version]\n",
-        );
+        usage();
         return;
     }
     let mut word = io::buffer();
