@@ -15,8 +15,9 @@ use Rattle.curve.specs.Lookups.{number-to-square, square-to-number, finish-squa
 use Rattle.lines.specs.declared.Request.{Request}
 use Rattle.lines.specs.declared.Request as Requests
 use Rattle.lines.specs.declared.Request.the-variants.{SetArea, AskNumber, AskSquare}
-use Rattle.lines.specs.Lines.{AREA, N, S, same-bytes, request}
-use Rattle.lines.proofs.Shapes.{same-itself, same-true}
+use Rattle.words.specs.Words.{same-bytes}
+use Rattle.lines.specs.Lines.{AREA, N, S, request}
+use Rattle.words.proofs.Same.{same-itself, same-true}
 use Rattle.lines.proofs.Asking.{with-one, with-two, Says, says-so, area-spelt}
 use Rattle.clerk.specs.declared.Clerk.{Clerk}
 use Rattle.clerk.specs.declared.Clerk.the-variants.{NoArea, InForce}

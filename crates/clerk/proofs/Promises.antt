@@ -13,7 +13,8 @@ use Rattle.terms.specs.declared.Area.{Area}
 use Rattle.terms.specs.Terms.{accepted}
 use Rattle.terms.proofs.Laws.{named, named-back}
 use Rattle.terms.proofs.Ones.{one-equation, by-figures}
-use Rattle.lines.specs.Lines.{fields, all-digits, value-on, is-number, numeral, AREA, same-bytes, shaped, request}
+use Rattle.words.specs.Words.{all-digits, value-on, is-number, numeral, same-bytes}
+use Rattle.lines.specs.Lines.{fields, AREA, shaped, request}
 use Rattle.clerk.specs.declared.Clerk.{Clerk}
 use Rattle.clerk.specs.declared.Clerk.the-variants.{NoArea, InForce}
 use Rattle.clerk.specs.declared.Handled.{Handled}

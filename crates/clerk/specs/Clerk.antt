@@ -8,7 +8,8 @@ use Rattle.terms.specs.Terms.{accepted, refusal-number, Figures}
 use Rattle.terms.specs.declared.Refusal as Refusals
 use Rattle.curve.specs.Lookups.{number-to-square, square-to-number, finish-square}
 use Rattle.lines.specs.declared.Request as Requests
-use Rattle.lines.specs.Lines.{AREA, begins, request}
+use Rattle.words.specs.Words.{begins}
+use Rattle.lines.specs.Lines.{AREA, request}
 use Rattle.clerk.specs.declared.Clerk.{Clerk}
 use Rattle.clerk.specs.declared.Clerk.the-variants.{NoArea, InForce}
 use Rattle.clerk.specs.declared.Reply as Replies

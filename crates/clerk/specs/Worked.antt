@@ -3,16 +3,16 @@
 -- their numbers and in their order, and the area in force after each line; what an answered line says is the call's own (`cell-replied`, `number-replied`).
 use mathlib.Core.Bool.{Bool, true, false, _&&_}
 use mathlib.Core.List.{List, [], _∷_, _++_}
-use Prim.Native.Nat.{ℕ, _+_}
+use Prim.Native.Nat.{ℕ}
 use Prim.Native.String.{String}
 use lib.Dec.{T, eqb}
 use lib.ListN.{replicate}
-use Rattle.terms.specs.declared.Area.{Area}
 use Rattle.terms.specs.Terms.{accepted}
 use Rattle.terms.specs.Comparing.{same-numbers}
 use Rattle.curve.specs.Lookups.{number-to-square, square-to-number, finish-square}
-use Rattle.lines.specs.Letters.{bytes}
-use Rattle.lines.specs.Lines.{fields, all-digits, value-on, is-number, numeral, same-bytes, shaped, request}
+use Rattle.words.specs.Letters.{bytes}
+use Rattle.words.specs.Words.{all-digits, value-on, is-number, numeral, same-bytes}
+use Rattle.lines.specs.Lines.{fields, shaped, request}
 use Rattle.clerk.specs.declared.Clerk.{Clerk}
 use Rattle.clerk.specs.declared.Clerk.the-variants.{NoArea, InForce}
 use Rattle.clerk.specs.Clerk.{Word, Area-set, Cell, Number, Refused, Said, after, reply}

@@ -122,7 +122,7 @@ fn clerk_after(clerk: Clerk, line: &[u8], asked: Request) -> Clerk
     match asked {
         Request::SetArea { w, h } => clerk_under(Area { w: w, h: h }),
         Request::Refused(_) => {
-            if lines::begins_with(line, b"AREA") {
+            if words::begins_with(line, b"AREA") {
                 return Clerk::NoArea;
             }
             clerk

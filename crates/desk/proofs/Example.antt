@@ -16,10 +16,11 @@ use Rattle.division.specs.Division.Worked.{eighth, eighth-held}
 use Rattle.curve.specs.Lookups.{number-to-square, square-to-number, finish-square}
 use Rattle.curve.proofs.Answers.{number-outside}
 use Rattle.curve.proofs.Promises.{number-answered, number-back}
-use Rattle.lines.specs.Letters.{bytes}
-use Rattle.lines.specs.Lines.{fields, all-digits, value-on, is-number, numeral, AREA, same-bytes, shaped, request}
-use Rattle.lines.specs.Decimal.{decimal-by, decimal}
-use Rattle.lines.proofs.Shapes.{same-itself}
+use Rattle.words.specs.Letters.{bytes}
+use Rattle.words.specs.Words.{all-digits, value-on, is-number, numeral, same-bytes}
+use Rattle.lines.specs.Lines.{fields, AREA, shaped, request}
+use Rattle.words.specs.Decimal.{decimal-by, decimal}
+use Rattle.words.proofs.Same.{same-itself}
 use Rattle.clerk.specs.declared.Clerk.{Clerk}
 use Rattle.clerk.specs.declared.Clerk.the-variants.{NoArea, InForce}
 use Rattle.clerk.specs.Clerk.{Area-set, Cell, Number, Refused, Said, says, told, begins-area, after, reply}

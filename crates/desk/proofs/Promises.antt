@@ -2,16 +2,17 @@
 -- for the small functions.
 use mathlib.Core.Bool.{true, false}
 use mathlib.Core.List.{List, [], _∷_, _++_}
-use mathlib.Core.Path.{_≡_, sym, ap, _∙_}
+use mathlib.Core.Path.{_≡_, ap}
 use Prim.Native.Nat.{ℕ, _+_, _≤_}
 use native.Mathlib.Omega.{arith}
 use lib.ListN.{getD, replicate}
 use Rattle.terms.proofs.Laws.{bit}
 use Rattle.terms.proofs.Ones.{one-equation}
-use Rattle.lines.specs.Lines.{fields, all-digits, value-on, is-number, numeral, same-bytes, shaped, request}
+use Rattle.words.specs.Words.{all-digits, value-on, is-number, numeral, same-bytes}
+use Rattle.lines.specs.Lines.{fields, shaped, request}
 use Rattle.clerk.specs.declared.Clerk.the-variants.{NoArea}
 use Rattle.clerk.specs.Clerk.{Said, after, reply}
-use Rattle.lines.specs.Decimal.{decimal-by, decimal}
+use Rattle.words.specs.Decimal.{decimal-by, decimal}
 use Rattle.replies.specs.Text.{text, longest, Writes, if-room}
 use Rattle.replies.proofs.Promises.{writes-one}
 use Rattle.desk.specs.declared.Desk.{Desk}

@@ -6,9 +6,9 @@ use Prim.Native.Nat.{ℕ, zero, suc, _+_, _≤_, _<_}
 use native.Mathlib.Omega.{arith}
 use borrow.Author.Tests.{le-leb, lt-leb, ne-eqb}
 use lib.ListN.{length, getD, take}
-use Rattle.lines.specs.Letters.{bytes}
+use Rattle.words.specs.Letters.{bytes}
 use Rattle.lines.specs.Lines.{onto}
-use Rattle.lines.specs.Decimal.{decimal-by, decimal}
+use Rattle.words.specs.Decimal.{decimal-by, decimal}
 use Rattle.clerk.specs.declared.Clerk.{Clerk}
 use Rattle.clerk.specs.declared.Clerk.the-variants.{NoArea}
 use Rattle.clerk.specs.Clerk.{after, reply}

@@ -7,18 +7,19 @@ use mathlib.Core.Path.{_≡_, refl, sym, ap, ap₂, subst, subst⁻¹, _∙_}
 use Prim.Native.Nat.{ℕ, _≤_}
 use native.Mathlib.Omega.{arith}
 use borrow.Author.Tests.{leb-true, le-leb, ne-eqb, eqb-true}
-use lib.Dec.{leb, eqb, lit≤}
+use lib.Dec.{leb, eqb}
 use lib.ListN.{length, length-append}
 use Rattle.terms.specs.declared.Refusal.the-variants.{NotANumber, WrongShape, LongLine}
-use Rattle.lines.specs.declared.Numeral.{Numeral}
-use Rattle.lines.specs.declared.Numeral.the-variants.{Value, NoNumber}
+use Rattle.words.specs.declared.Numeral.{Numeral}
+use Rattle.words.specs.declared.Numeral.the-variants.{Value, NoNumber}
 use Rattle.lines.specs.declared.Request.{Request}
 use Rattle.lines.specs.declared.Request.the-variants.{SetArea, AskNumber, AskSquare, Refused}
-use Rattle.lines.specs.Lines.{onto, fields, is-digit, all-digits, numeral, AREA, N, S, same-bytes, is-empty, by-one, by-two, of-two, two-fields, three-fields, shaped, request}
-use Rattle.lines.specs.Decimal.{decimal}
+use Rattle.words.specs.Words.{is-digit, all-digits, numeral, same-bytes}
+use Rattle.lines.specs.Lines.{onto, fields, AREA, N, S, is-empty, by-one, by-two, of-two, two-fields, three-fields, shaped, request}
+use Rattle.words.specs.Decimal.{decimal}
 use Rattle.lines.specs.Reading.{word}
-use Rattle.lines.proofs.Decimals.{read-back, only-text, reads, ten-digits}
-use Rattle.lines.proofs.Shapes.{same-true}
+use Rattle.words.proofs.Decimals.{read-back, only-text, reads, ten-digits}
+use Rattle.words.proofs.Same.{same-true}
 use Rattle.lines.proofs.Sequence.{rest, fields-are}
 
 -- A word with one number, and with two, after it: the lines `N i`, `AREA w h` and `S x y`, spelt.

@@ -1,4 +1,2 @@
-pub mod Letters
 pub mod Lines
 pub mod Reading
-pub mod Decimal

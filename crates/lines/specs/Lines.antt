@@ -1,16 +1,17 @@
--- What an order line says: document 01, "Order lines", its shapes and its numbers, and refusals 5, 6 and 8.
-use mathlib.Core.Bool.{Bool, true, false, not, cond, _&&_, _||_}
+-- What an order line says: document 01, "Order lines", its shapes, and refusals 5, 6 and 8.
+use mathlib.Core.Bool.{Bool, true, false, cond, _||_}
 use mathlib.Core.List.{List, [], _∷_}
-use Prim.Native.Nat.{ℕ, _+_, _-_, _*_}
+use Prim.Native.Nat.{ℕ}
 use lib.Dec.{leb, eqb}
-use lib.ListN.{length, take}
+use lib.ListN.{length}
 use Rattle.terms.specs.declared.Refusal.the-variants.{NotANumber, WrongShape, LongLine}
 use Rattle.terms.specs.Terms.{refusal-number}
-use Rattle.lines.specs.declared.Numeral.{Numeral}
-use Rattle.lines.specs.declared.Numeral.the-variants.{Value, NoNumber}
+use Rattle.words.specs.declared.Numeral.{Numeral}
+use Rattle.words.specs.declared.Numeral.the-variants.{Value, NoNumber}
 use Rattle.lines.specs.declared.Request.{Request}
 use Rattle.lines.specs.declared.Request.the-variants.{SetArea, AskNumber, AskSquare, Refused}
-use Rattle.lines.specs.Letters.{bytes}
+use Rattle.words.specs.Letters.{bytes}
+use Rattle.words.specs.Words.{numeral, same-bytes}
 
 -- A byte put before the first of some pieces, or a piece of its own where there is none.
 abbrev pub onto : ℕ → List (List ℕ) → List (List ℕ)
@@ -22,35 +23,6 @@ unfoldable pub fields : List ℕ → List (List ℕ)
 fields [] = [] ∷ []
 fields (b ∷ bs) = cond (eqb b 32) ([] ∷ fields bs) (onto b (fields bs))
 
--- "digits": bytes 48 to 57.
-abbrev pub is-digit : ℕ → Bool
-is-digit b = leb 48 b && leb b 57
-
-unfoldable pub all-digits : List ℕ → Bool
-all-digits [] = true
-all-digits (b ∷ bs) = is-digit b && all-digits bs
-
--- "first digit not 0 unless it is the single digit"
-abbrev pub well-begun : List ℕ → Bool
-well-begun [] = true
-well-begun (b ∷ []) = true
-well-begun (b ∷ c ∷ bs) = not (eqb b 48)
-
--- The value of digits that follow the value n.
-unfoldable pub value-on : ℕ → List ℕ → ℕ
-value-on n [] = n
-value-on n (b ∷ bs) = value-on (n * 10 + (b - 48)) bs
-
-abbrev pub value : List ℕ → ℕ
-value f = value-on 0 f
-
--- "A number is 1 to 10 digits, first digit not 0 unless it is the single digit, value at most 4,294,967,295."
-unfoldable pub is-number : List ℕ → Bool
-is-number f = leb 1 (length f) && leb (length f) 10 && all-digits f && well-begun f && leb (value f) 4294967295
-
-unfoldable pub numeral : List ℕ → Numeral
-numeral f = cond (is-number f) (Value (value f)) NoNumber
-
 -- The first words.
 abbrev pub AREA : List ℕ
 AREA = bytes "AREA"
@@ -60,16 +32,6 @@ N = bytes "N"
 
 abbrev pub S : List ℕ
 S = bytes "S"
-
-unfoldable pub same-bytes : List ℕ → List ℕ → Bool
-same-bytes [] [] = true
-same-bytes [] (b ∷ bs) = false
-same-bytes (a ∷ cs) [] = false
-same-bytes (a ∷ cs) (b ∷ bs) = eqb a b && same-bytes cs bs
-
--- Whether a line's first bytes are a word's: "whose first four bytes are AREA".
-abbrev pub begins : (line word : List ℕ) → Bool
-begins line word = same-bytes (take (length word) line) word
 
 -- What a known word asks with the one field, or the two, after it: an empty field is refusal 6, and one that is not a number refusal 5.
 abbrev pub is-empty : List ℕ → Bool

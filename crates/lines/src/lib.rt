@@ -1,25 +1,14 @@
-// The fields of an order line: the reader that takes them one at a time, the numbers in them, and what the line asks.
+// The fields of an order line: the reader that takes them one at a time, and what the line asks.
 use terms::Refusal;
-ghost use mathlib.Core.Bool.{cond, _&&_};
-ghost use mathlib.Core.List.{[], _∷_};
+use words::Numeral;
+ghost use mathlib.Core.Bool.{cond};
 ghost use mathlib.Core.Path.{_≡_};
-ghost use Prim.Native.Nat.{_≤_};
-ghost use lib.Dec.{leb};
-ghost use lib.ListN.{length};
 ghost use Rattle.lines.specs.declared.Request.the-variants.{SetArea, AskNumber, AskSquare};
-ghost use Rattle.lines.specs.Lines.{all-digits, well-begun, value, numeral, same-bytes, begins, of-one, of-two, two-fields, three-fields, request, asked};
+ghost use Rattle.lines.specs.Lines.{of-one, of-two, two-fields, three-fields, request, asked};
 ghost use Rattle.lines.specs.Reading.{field-at, piece, made-of-three, three-read};
 
 // How many bytes a line may have.
 const MOST_BYTES: usize = 64;
-
-// How many digits a number may have, and the largest number.
-const MOST_DIGITS: usize = 10;
-
-const LARGEST: u64 = 4294967295;
-
-// What stands for a value that is no number's.
-const OVER: u64 = 4294967296;
 
 // A place that no line has.
 const NOWHERE: usize = 18446744073709551615;
@@ -117,87 +106,6 @@ fn bytes_of<'a>(line: &'a [u8], f: Field) -> &'a [u8]
     &line[start..end]
 }
 
-// A field read as a number.
-pub enum Numeral {
-    Value(u32),
-    NoNumber,
-}
-
-// The value of up to ten digits, or one over the largest number if a byte is no digit.
-fn digits_value(s: &[u8]) -> u64
-    requires { ⌜ length (now s) ≤ 10 ⌝ }
-    ensures { λ r. ⌜ r ≡ cond (all-digits (now (s .entry))) (value (now (s .entry))) 4294967296 ⌝ }
-{
-    let mut v: u64 = 0;
-    for i in 0..s.len() {
-        let b = s[i];
-        if b < b'0' {
-            return OVER;
-        }
-        if b'9' < b {
-            return OVER;
-        }
-        v = v * 10 + (b - b'0') as u64;
-    }
-    v
-}
-
-// Whether a field has a first byte, which is not a 0 with others after it.
-fn begins_well(s: &[u8]) -> bool
-    ensures { λ r. ⌜ r ≡ (leb 1 (length (now (s .entry))) && well-begun (now (s .entry))) ⌝ }
-{
-    if s.len() < 1 {
-        return false;
-    }
-    if s.len() < 2 {
-        return true;
-    }
-    s[0] != b'0'
-}
-
-// A field's number: 1 to 10 digits, no needless 0 before them, at most 4,294,967,295.
-fn number(s: &[u8]) -> Numeral
-    ensures { λ r. ⌜ r ≡ numeral (now (s .entry)) ⌝ }
-{
-    if !begins_well(s) {
-        return Numeral::NoNumber;
-    }
-    if MOST_DIGITS < s.len() {
-        return Numeral::NoNumber;
-    }
-    let v = digits_value(s);
-    if LARGEST < v {
-        return Numeral::NoNumber;
-    }
-    Numeral::Value(v as u32)
-}
-
-// Whether a field is a word.
-pub fn is_word(s: &[u8], word: &[u8]) -> bool
-    ensures { λ r. ⌜ r ≡ same-bytes (now (s .entry)) (now (word .entry)) ⌝ }
-{
-    if s.len() != word.len() {
-        return false;
-    }
-    for i in 0..s.len() {
-        if s[i] != word[i] {
-            return false;
-        }
-    }
-    true
-}
-
-// Whether a line begins with a word.
-pub fn begins_with(line: &[u8], word: &[u8]) -> bool
-    ensures { λ r. ⌜ r ≡ begins (now (line .entry)) (now (word .entry)) ⌝ }
-{
-    let n = word.len();
-    if line.len() < n {
-        return false;
-    }
-    is_word(&line[..n], word)
-}
-
 // What a line asks with one number after its word.
 fn with_one(a: &[u8]) -> Request
     ensures { λ r. ⌜ r ≡ of-one AskNumber (now (a .entry)) ⌝ }
@@ -205,7 +113,7 @@ fn with_one(a: &[u8]) -> Request
     if a.len() < 1 {
         return Request::Refused(Refusal::WrongShape);
     }
-    match number(a) {
+    match words::number(a) {
         Numeral::Value(i) => Request::AskNumber { i: i },
         Numeral::NoNumber => Request::Refused(Refusal::NotANumber),
     }
@@ -221,8 +129,8 @@ fn with_two(a: &[u8], b: &[u8], sets: bool) -> Request
     if b.len() < 1 {
         return Request::Refused(Refusal::WrongShape);
     }
-    match number(a) {
-        Numeral::Value(x) => match number(b) {
+    match words::number(a) {
+        Numeral::Value(x) => match words::number(b) {
             Numeral::Value(y) => {
                 if sets {
                     return Request::SetArea { w: x, h: y };
@@ -239,7 +147,7 @@ fn with_two(a: &[u8], b: &[u8], sets: bool) -> Request
 fn two_fields(word: &[u8], a: &[u8]) -> Request
     ensures { λ r. ⌜ r ≡ two-fields (now (word .entry)) (now (a .entry)) ⌝ }
 {
-    if is_word(word, b"N") {
+    if words::is_word(word, b"N") {
         return with_one(a);
     }
     Request::Refused(Refusal::WrongShape)
@@ -249,10 +157,10 @@ fn two_fields(word: &[u8], a: &[u8]) -> Request
 fn three_fields(word: &[u8], a: &[u8], b: &[u8]) -> Request
     ensures { λ r. ⌜ r ≡ three-fields (now (word .entry)) (now (a .entry)) (now (b .entry)) ⌝ }
 {
-    if is_word(word, b"AREA") {
+    if words::is_word(word, b"AREA") {
         return with_two(a, b, true);
     }
-    if is_word(word, b"S") {
+    if words::is_word(word, b"S") {
         return with_two(a, b, false);
     }
     Request::Refused(Refusal::WrongShape)

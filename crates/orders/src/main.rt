@@ -126,17 +126,17 @@ fn usage() {
 
 // Answers an argument: a word that asks about the program, or the name of a form.
 fn answer_argument(word: &[u8]) {
-    if lines::is_word(word, b"--help") {
+    if words::is_word(word, b"--help") {
         say(
             b"orders [FORM]: answers the order lines of FORM, or of standard input, with a reply to each. See orders(1).\n",
         );
         return;
     }
-    if lines::is_word(word, b"--version") {
+    if words::is_word(word, b"--version") {
         say(b"orders 1.0.0\n");
         return;
     }
-    if lines::begins_with(word, b"-") {
+    if words::begins_with(word, b"-") {
         usage();
         return;
     }

@@ -8,10 +8,10 @@ use native.Mathlib.Omega.{arith}
 use lib.Dec.{leb}
 use lib.ListN.{replicate}
 use Rattle.terms.proofs.Laws.{bit}
-use Rattle.lines.specs.Letters.{bytes}
+use Rattle.words.specs.Letters.{bytes}
 use Rattle.lines.proofs.Asking.{between}
 use Rattle.clerk.specs.Clerk.{Word, Area-set, Cell, Number, Refused, Said, says}
-use Rattle.lines.specs.Decimal.{decimal-by, decimal}
+use Rattle.words.specs.Decimal.{decimal-by, decimal}
 use Rattle.replies.specs.Text.{all-spaced, spaced-word, text, stop, longest, Writes, if-room}
 
 -- "prints for each line its number from 1, a space, and one of: AREA w h n fx fy; CELL x y k; NUMBER i k; REFUSED r", and a newline.

@@ -7,8 +7,8 @@ use Prim.Native.Nat.{ℕ, _+_}
 use lib.Dec.{leb}
 use lib.ListN.{length}
 use lib.Seq.{sets}
-use Rattle.lines.specs.Letters.{bytes}
-use Rattle.lines.specs.Decimal.{decimal}
+use Rattle.words.specs.Letters.{bytes}
+use Rattle.words.specs.Decimal.{decimal}
 use Rattle.clerk.specs.Clerk as Clerks
 
 -- A space and a number in decimal.

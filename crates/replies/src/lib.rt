@@ -6,7 +6,7 @@ ghost use Prim.Native.Nat.{_+_, _≤_};
 ghost use lib.Dec.{leb};
 ghost use lib.ListN.{length};
 ghost use Rattle.clerk.specs.Clerk.{says, Area-set, Cell, Number, Refused, said};
-ghost use Rattle.lines.specs.Decimal.{decimal};
+ghost use Rattle.words.specs.Decimal.{decimal};
 ghost use Rattle.replies.specs.Text.{spaced, body, text, stop, longest, Writes, if-room};
 
 // The longest text: a line's number and a reply with five numbers, each of ten digits.

@@ -1,7 +1,8 @@
 -- `lines::with_one` meets its contract: the field is there, then it is read.
 use borrow.Author.Needs.{needs}
-use mathlib.Core.Path.{sym, _∙_}
+use mathlib.Core.Path.{refl, sym, _∙_}
 use Rattle.lines.specs.declared.Request.the-variants.{AskNumber}
+use Rattle.words.proofs.Promises.{numeral-one}
 use Rattle.lines.proofs.Shapes.{one-empty, one-there}
 use Rattle.lines.proofs.with_one.Statement.{statement}
 use Rattle.lines.proofs.with_one.Tie as tie
@@ -19,10 +20,10 @@ enum-told : tie.Need-enum-told
 enum-told c = search needs
 
 returns-2 : tie.Need-returns-2
-returns-2 c = one-there (λ i. AskNumber i) (c .before .before .before .before .before .before .args .a .now) (c .before .before .before .before .if1 .left) _ (sym (c .before .i .given .1) ∙ c .before .before .before .number .ensures)
+returns-2 c = one-there (λ i. AskNumber i) (c .before .before .before .before .before .before .args .a .now) (c .before .before .before .before .if1 .left) _ (sym (c .before .i .given .1) ∙ numeral-one _ _ (c .before .before .before .number .ensures) refl)
 
 returns-3 : tie.Need-returns-3
-returns-3 c = one-there (λ i. AskNumber i) (c .before .before .before .before .before .args .a .now) (c .before .before .before .if1 .left) _ (sym (c .enum-told .given .1) ∙ c .before .before .number .ensures)
+returns-3 c = one-there (λ i. AskNumber i) (c .before .before .before .before .before .args .a .now) (c .before .before .before .if1 .left) _ (sym (c .enum-told .given .1) ∙ numeral-one _ _ (c .before .before .number .ensures) refl)
 
 pub with-one-spec : {M : Type 1} → statement M
 with-one-spec =

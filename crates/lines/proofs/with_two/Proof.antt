@@ -3,6 +3,7 @@ use borrow.Author.Needs.{needs}
 use mathlib.Core.Bool.{cond}
 use mathlib.Core.Path.{refl, sym, _∙_}
 use Rattle.lines.specs.declared.Request.the-variants.{SetArea, AskSquare}
+use Rattle.words.proofs.Promises.{numeral-one}
 use Rattle.lines.proofs.Shapes.{first-empty, second-empty, two-there}
 use Rattle.lines.proofs.with_two.Statement.{statement}
 use Rattle.lines.proofs.with_two.Tie as tie
@@ -26,7 +27,7 @@ enum-known-y : tie.Need-enum-known-y
 enum-known-y c = search needs
 
 returns-3 : tie.Need-returns-3
-returns-3 c = sym (rw (c .if3 .taken)) ∙ two-there (cond (c .before .before .before .before .before .before .before .before .before .before .before .before .before .args .sets) (λ w h. SetArea w h) (λ x y. AskSquare x y)) (c .before .before .before .before .before .before .before .before .before .before .before .before .before .args .a .now) (c .before .before .before .before .before .before .before .before .before .before .before .before .before .args .b .now) (c .before .before .before .before .before .before .before .before .before .before .if1 .left) (c .before .before .before .before .before .before .before .before .before .if2 .left) _ _ (sym (c .before .before .before .before .before .before .x .given .1) ∙ c .before .before .before .before .before .before .before .before .number .ensures) (sym (c .before .before .y .given .1) ∙ c .before .before .before .before .number2 .ensures)
+returns-3 c = sym (rw (c .if3 .taken)) ∙ two-there (cond (c .before .before .before .before .before .before .before .before .before .before .before .before .before .args .sets) (λ w h. SetArea w h) (λ x y. AskSquare x y)) (c .before .before .before .before .before .before .before .before .before .before .before .before .before .args .a .now) (c .before .before .before .before .before .before .before .before .before .before .before .before .before .args .b .now) (c .before .before .before .before .before .before .before .before .before .before .if1 .left) (c .before .before .before .before .before .before .before .before .before .if2 .left) _ _ (sym (c .before .before .before .before .before .before .x .given .1) ∙ numeral-one _ _ (c .before .before .before .before .before .before .before .before .number .ensures) refl) (sym (c .before .before .y .given .1) ∙ numeral-one _ _ (c .before .before .before .before .number2 .ensures) refl)
 
 enum-told : tie.Need-enum-told
 enum-told c = search needs
@@ -35,13 +36,13 @@ enum-told-2 : tie.Need-enum-told-2
 enum-told-2 c = search needs
 
 returns-4 : tie.Need-returns-4
-returns-4 c = sym (rw (c .if3 .left)) ∙ two-there (cond (c .before .before .before .before .before .before .before .before .before .before .before .before .before .args .sets) (λ w h. SetArea w h) (λ x y. AskSquare x y)) (c .before .before .before .before .before .before .before .before .before .before .before .before .before .args .a .now) (c .before .before .before .before .before .before .before .before .before .before .before .before .before .args .b .now) (c .before .before .before .before .before .before .before .before .before .before .if1 .left) (c .before .before .before .before .before .before .before .before .before .if2 .left) _ _ (sym (c .before .before .before .before .before .before .x .given .1) ∙ c .before .before .before .before .before .before .before .before .number .ensures) (sym (c .before .before .y .given .1) ∙ c .before .before .before .before .number2 .ensures)
+returns-4 c = sym (rw (c .if3 .left)) ∙ two-there (cond (c .before .before .before .before .before .before .before .before .before .before .before .before .before .args .sets) (λ w h. SetArea w h) (λ x y. AskSquare x y)) (c .before .before .before .before .before .before .before .before .before .before .before .before .before .args .a .now) (c .before .before .before .before .before .before .before .before .before .before .before .before .before .args .b .now) (c .before .before .before .before .before .before .before .before .before .before .if1 .left) (c .before .before .before .before .before .before .before .before .before .if2 .left) _ _ (sym (c .before .before .before .before .before .before .x .given .1) ∙ numeral-one _ _ (c .before .before .before .before .before .before .before .before .number .ensures) refl) (sym (c .before .before .y .given .1) ∙ numeral-one _ _ (c .before .before .before .before .number2 .ensures) refl)
 
 returns-5 : tie.Need-returns-5
-returns-5 c = two-there (cond (c .before .before .before .before .before .before .before .before .before .before .before .args .sets) (λ w h. SetArea w h) (λ x y. AskSquare x y)) (c .before .before .before .before .before .before .before .before .before .before .before .args .a .now) (c .before .before .before .before .before .before .before .before .before .before .before .args .b .now) (c .before .before .before .before .before .before .before .before .if1 .left) (c .before .before .before .before .before .before .before .if2 .left) _ _ (sym (c .before .before .before .before .x .given .1) ∙ c .before .before .before .before .before .before .number .ensures) (sym (c .enum-told .given .1) ∙ c .before .before .number2 .ensures)
+returns-5 c = two-there (cond (c .before .before .before .before .before .before .before .before .before .before .before .args .sets) (λ w h. SetArea w h) (λ x y. AskSquare x y)) (c .before .before .before .before .before .before .before .before .before .before .before .args .a .now) (c .before .before .before .before .before .before .before .before .before .before .before .args .b .now) (c .before .before .before .before .before .before .before .before .if1 .left) (c .before .before .before .before .before .before .before .if2 .left) _ _ (sym (c .before .before .before .before .x .given .1) ∙ numeral-one _ _ (c .before .before .before .before .before .before .number .ensures) refl) (sym (c .enum-told .given .1) ∙ numeral-one _ _ (c .before .before .number2 .ensures) refl)
 
 returns-6 : tie.Need-returns-6
-returns-6 c = two-there (cond (c .before .before .before .before .before .before .before .args .sets) (λ w h. SetArea w h) (λ x y. AskSquare x y)) (c .before .before .before .before .before .before .before .args .a .now) (c .before .before .before .before .before .before .before .args .b .now) (c .before .before .before .before .if1 .left) (c .before .before .before .if2 .left) _ _ (sym (c .enum-told2 .given .1) ∙ c .before .before .number .ensures) (refl)
+returns-6 c = two-there (cond (c .before .before .before .before .before .before .before .args .sets) (λ w h. SetArea w h) (λ x y. AskSquare x y)) (c .before .before .before .before .before .before .before .args .a .now) (c .before .before .before .before .before .before .before .args .b .now) (c .before .before .before .before .if1 .left) (c .before .before .before .if2 .left) _ _ (sym (c .enum-told2 .given .1) ∙ numeral-one _ _ (c .before .before .number .ensures) refl) (refl)
 
 pub with-two-spec : {M : Type 1} → statement M
 with-two-spec =

@@ -3,7 +3,7 @@ use borrow.Author.Needs.{needs}
 use mathlib.Core.Path.{_∙_}
 use native.Mathlib.Omega.{arith}
 use lib.ListN.{length-set}
-use Rattle.lines.proofs.Decimals.{ten-digits}
+use Rattle.words.proofs.Decimals.{ten-digits}
 use Rattle.replies.proofs.Writing.{writes-byte, writes-both}
 use Rattle.replies.proofs.put_spaced.Statement.{statement}
 use Rattle.replies.proofs.put_spaced.Tie as tie

@@ -2,7 +2,7 @@
 use borrow.Author.Needs.{needs}
 use native.Mathlib.Omega.{arith}
 use Rattle.replies.specs.Text.{stop}
-use Rattle.lines.proofs.Decimals.{ten-digits}
+use Rattle.words.proofs.Decimals.{ten-digits}
 use Rattle.replies.proofs.Writing.{writes-both}
 use Rattle.replies.proofs.put_stop.Statement.{statement}
 use Rattle.replies.proofs.put_stop.Tie as tie

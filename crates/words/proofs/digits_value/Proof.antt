@@ -1,12 +1,12 @@
--- `lines::digits_value` meets its contract. What is due of the whole field is due of the rest with the value so far (`Numerals`); the measure is what is
+-- `words::digits_value` meets its contract. What is due of the whole field is due of the rest with the value so far (`Numerals`); the measure is what is
 -- left of the field.
 use mathlib.Core.Path.{_≡_, refl, _∙_}
 use Prim.Native.Nat.{_≤_, _<_, _-_, _^_}
 use native.Mathlib.Omega.{arith}
 use lib.ListN.{drop}
-use Rattle.lines.proofs.Numerals.{due, due-on, due-low, due-high, due-end, below-ten, ten-digits}
-use Rattle.lines.proofs.digits_value.Statement.{statement}
-use Rattle.lines.proofs.digits_value.Tie as tie
+use Rattle.words.proofs.Numerals.{due, due-on, due-low, due-high, due-end, below-ten, ten-digits}
+use Rattle.words.proofs.digits_value.Statement.{statement}
+use Rattle.words.proofs.digits_value.Tie as tie
 
 abbrev Inv-loop : tie.InvT-loop
 Inv-loop s v₀ i₀ i-end v i = (i ≤ i-end) × (v < 10 ^ i) × (due v (drop i s) ≡ due 0 s)

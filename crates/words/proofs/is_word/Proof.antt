@@ -1,12 +1,12 @@
--- `lines::is_word` meets its contract. The loop's invariant: what is due of both is what is due of the rest of both. The measure is what is left.
+-- `words::is_word` meets its contract. The loop's invariant: what is due of both is what is due of the rest of both. The measure is what is left.
 use mathlib.Core.Path.{_≡_, refl, sym, _∙_}
 use Prim.Native.Nat.{_-_, _≤_}
 use native.Mathlib.Omega.{arith}
 use lib.ListN.{length, drop}
-use Rattle.lines.specs.Lines.{same-bytes}
-use Rattle.lines.proofs.Shapes.{other-length, same-on, other-byte, same-end}
-use Rattle.lines.proofs.is_word.Statement.{statement}
-use Rattle.lines.proofs.is_word.Tie as tie
+use Rattle.words.specs.Words.{same-bytes}
+use Rattle.words.proofs.Same.{other-length, same-on, other-byte, same-end}
+use Rattle.words.proofs.is_word.Statement.{statement}
+use Rattle.words.proofs.is_word.Tie as tie
 
 abbrev Inv-loop : tie.InvT-loop
 Inv-loop s word i₀ i-end i =

@@ -9,8 +9,8 @@ use borrow.Author.Tests.{le-leb, lt-leb}
 use lib.Dec.{leb, eqb}
 use lib.ListN.{length, getD, drop}
 use lib.Seq.{drop-cons, drop-length}
-use Rattle.lines.specs.declared.Numeral.the-variants.{Value, NoNumber}
-use Rattle.lines.specs.Lines.{all-digits, well-begun, value-on, value, is-number, numeral}
+use Rattle.words.specs.declared.Numeral.the-variants.{Value, NoNumber}
+use Rattle.words.specs.Words.{all-digits, well-begun, value-on, value, is-number, numeral}
 
 -- the value of digits that follow the value n, or one over the largest number if a byte is no digit
 abbrev pub due : ℕ → List ℕ → ℕ

@@ -1,8 +1,8 @@
--- `lines::begins_well` meets its contract.
+-- `words::begins_well` meets its contract.
 use borrow.Author.Needs.{needs}
-use Rattle.lines.proofs.Numerals.{begun-not, begun-single, begun-by}
-use Rattle.lines.proofs.begins_well.Statement.{statement}
-use Rattle.lines.proofs.begins_well.Tie as tie
+use Rattle.words.proofs.Numerals.{begun-not, begun-single, begun-by}
+use Rattle.words.proofs.begins_well.Statement.{statement}
+use Rattle.words.proofs.begins_well.Tie as tie
 
 returns : tie.Need-returns
 returns c = begun-not (c .before .args .s .now) (c .if1 .taken)

@@ -1,11 +1,11 @@
--- `lines::begins_with` meets its contract: a line that is too short is no match, and of any other the first bytes are compared.
+-- `words::begins_with` meets its contract: a line that is too short is no match, and of any other the first bytes are compared.
 use borrow.Author.Needs.{needs}
 use mathlib.Core.Path.{sym}
 use lib.ListN.{length}
 use lib.Seq.{length-take-le}
-use Rattle.lines.proofs.Shapes.{too-short}
-use Rattle.lines.proofs.begins_with.Statement.{statement}
-use Rattle.lines.proofs.begins_with.Tie as tie
+use Rattle.words.proofs.Same.{too-short}
+use Rattle.words.proofs.begins_with.Statement.{statement}
+use Rattle.words.proofs.begins_with.Tie as tie
 
 returns : tie.Need-returns
 returns c = too-short (c .before .before .before .args .line .now) (c .before .before .before .args .word .now) (c .if1 .taken)

@@ -9,10 +9,9 @@ use native.Mathlib.Omega.{arith}
 use borrow.Author.Tests.{ltb-true, ltb-false, lt-ltb, le-ltb, leb-true, le-leb, eqb-false, ne-eqb}
 use lib.Dec.{leb, ltb, eqb}
 use lib.ListN.{length, length-append, getD, List·getD-append}
-use Rattle.lines.specs.declared.Numeral.{Numeral}
-use Rattle.lines.specs.declared.Numeral.the-variants.{Value, NoNumber}
-use Rattle.lines.specs.Lines.{is-digit, all-digits, well-begun, value-on, value, is-number, numeral}
-use Rattle.lines.specs.Decimal.{decimal-by, decimal}
+use Rattle.words.specs.declared.Numeral.the-variants.{Value, NoNumber}
+use Rattle.words.specs.Words.{is-digit, all-digits, well-begun, value-on, value, is-number, numeral}
+use Rattle.words.specs.Decimal.{decimal-by, decimal}
 
 -- the digits before the last are those of the tenth part
 tenth : (n steps : ℕ) → n ≤ suc steps → n / 10 ≤ steps

@@ -1,0 +1,4 @@
+pub mod Same
+pub mod Numerals
+pub mod Decimals
+pub mod Promises

@@ -1,0 +1,42 @@
+-- `words::number` meets its contract: each test that fails leaves no number, and where none fails the digits' value is the field's.
+use borrow.Author.Needs.{needs}
+use mathlib.Core.Path.{sym, ap, _∙_}
+use borrow.Author.Tests.{not-true, not-false}
+use native.Mathlib.Omega.{arith}
+use Rattle.words.specs.Words.{numeral-figures}
+use Rattle.words.proofs.Numerals.{ill-begun, too-long, too-large, a-number}
+use Rattle.words.proofs.number.Statement.{statement}
+use Rattle.words.proofs.number.Tie as tie
+
+begins-well-requires : tie.Need-begins-well-requires
+begins-well-requires c κs = search needs
+
+returns : tie.Need-returns
+returns c = ap numeral-figures (ill-begun _ (sym (c .before .begins-well .ensures) ∙ not-true _ (c .if1 .taken)))
+
+returns-2 : tie.Need-returns-2
+returns-2 c = ap numeral-figures (too-long _ (c .if2 .taken))
+
+digits-value-requires : tie.Need-digits-value-requires
+digits-value-requires c κs = c .if2 .left
+
+returns-3 : tie.Need-returns-3
+returns-3 c = ap numeral-figures (too-large _ _ (c .before .digits-value .ensures) (c .if3 .taken))
+
+cast-t6 : tie.Need-cast-t6
+cast-t6 c = record { fits = let few = c .if3 .left in omega arith }
+
+returns-4 : tie.Need-returns-4
+returns-4 c = ap numeral-figures (a-number _ _ (c .before .digits-value .ensures) (sym (c .before .before .before .before .begins-well .ensures) ∙ not-false _ (c .before .before .before .if1 .left)) (c .before .before .if2 .left) (c .if3 .left))
+
+pub number-spec : {M : Type 1} → statement M
+number-spec =
+    tie.close
+    (tie.spec
+    begins-well-requires
+    returns
+    returns-2
+    digits-value-requires
+    returns-3
+    cast-t6
+    returns-4)

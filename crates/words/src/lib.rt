@@ -1,0 +1,96 @@
+// What a field of a line holds: a word, or a number.
+ghost use mathlib.Core.Bool.{cond, _&&_};
+ghost use mathlib.Core.Path.{_≡_};
+ghost use Prim.Native.Nat.{_≤_};
+ghost use lib.Dec.{leb};
+ghost use lib.ListN.{length};
+ghost use Rattle.words.specs.Words.{all-digits, well-begun, value, numeral, numeral-figures, same-bytes, begins};
+
+// How many digits a number may have, and the largest number.
+const MOST_DIGITS: usize = 10;
+
+const LARGEST: u64 = 4294967295;
+
+// What stands for a value that is no number's.
+const OVER: u64 = 4294967296;
+
+// A field read as a number.
+pub enum Numeral {
+    Value(u32),
+    NoNumber,
+}
+
+// The value of up to ten digits, or one over the largest number if a byte is no digit.
+fn digits_value(s: &[u8]) -> u64
+    requires { ⌜ length (now s) ≤ 10 ⌝ }
+    ensures { λ r. ⌜ r ≡ cond (all-digits (now (s .entry))) (value (now (s .entry))) 4294967296 ⌝ }
+{
+    let mut v: u64 = 0;
+    for i in 0..s.len() {
+        let b = s[i];
+        if b < b'0' {
+            return OVER;
+        }
+        if b'9' < b {
+            return OVER;
+        }
+        v = v * 10 + (b - b'0') as u64;
+    }
+    v
+}
+
+// Whether a field has a first byte, which is not a 0 with others after it.
+fn begins_well(s: &[u8]) -> bool
+    ensures { λ r. ⌜ r ≡ (leb 1 (length (now (s .entry))) && well-begun (now (s .entry))) ⌝ }
+{
+    if s.len() < 1 {
+        return false;
+    }
+    if s.len() < 2 {
+        return true;
+    }
+    s[0] != b'0'
+}
+
+// A field's number: 1 to 10 digits, no needless 0 before them, at most 4,294,967,295.
+pub fn number(s: &[u8]) -> Numeral
+    ensures { λ r. ⌜ numeral-figures r ≡ numeral-figures (numeral (now (s .entry))) ⌝ }
+{
+    if !begins_well(s) {
+        return Numeral::NoNumber;
+    }
+    if MOST_DIGITS < s.len() {
+        return Numeral::NoNumber;
+    }
+    let v = digits_value(s);
+    if LARGEST < v {
+        return Numeral::NoNumber;
+    }
+    Numeral::Value(v as u32)
+}
+
+// Whether a field is a word.
+pub fn is_word(s: &[u8], word: &[u8]) -> bool
+    ensures { λ r. ⌜ r ≡ same-bytes (now (s .entry)) (now (word .entry)) ⌝ }
+{
+    if s.len() != word.len() {
+        return false;
+    }
+    for i in 0..s.len() {
+        if s[i] != word[i] {
+            return false;
+        }
+    }
+    true
+}
+
+// Whether a line begins with a word.
+pub fn begins_with(line: &[u8], word: &[u8]) -> bool
+    ensures { λ r. ⌜ r ≡ begins (now (line .entry)) (now (word .entry)) ⌝ }
+{
+    let n = word.len();
+    if line.len() < n {
+        return false;
+    }
+    is_word(&line[..n], word)
+}
