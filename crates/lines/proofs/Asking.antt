@@ -6,7 +6,7 @@ use mathlib.Core.List.{List, [], _∷_, _++_}
 use mathlib.Core.Path.{_≡_, refl, sym, ap, ap₂, subst, subst⁻¹, _∙_}
 use Prim.Native.Nat.{ℕ, _≤_}
 use native.Mathlib.Omega.{arith}
-use borrow.Author.Tests.{leb-true, le-leb, ne-eqb, eqb-true}
+use borrow.Author.Tests.{leb-true, le-leb, ne-eqb, eqb-true, not-true}
 use lib.Dec.{leb, eqb}
 use lib.ListN.{length, length-append}
 use Rattle.terms.specs.declared.Refusal.the-variants.{NotANumber, WrongShape, LongLine}
@@ -20,6 +20,7 @@ use Rattle.words.specs.Decimal.{decimal}
 use Rattle.lines.specs.Reading.{word}
 use Rattle.words.proofs.Decimals.{read-back, only-text, reads, ten-digits}
 use Rattle.words.proofs.Same.{same-true}
+use Rattle.lines.proofs.Shapes.{not-empty}
 use Rattle.lines.proofs.Sequence.{rest, fields-are}
 
 -- A word with one number, and with two, after it: the lines `N i`, `AREA w h` and `S x y`, spelt.
@@ -124,11 +125,7 @@ digits-spaceless (b ∷ f) e =
     rw (ne-eqb b 32 (λ z. omega arith)) (digits-spaceless f (both .1))
 
 no-space : (b : ℕ) (t : Bool) → (not (eqb b 32) && t) ≡ true → (eqb b 32 ≡ false) × (t ≡ true)
-no-space b t e = let both = and-eq-true-iff (not (eqb b 32)) t .0 e in (by (eqb b 32) (both .0), both .1)
-  where
-    by : (u : Bool) → not u ≡ true → u ≡ false
-    by false p = refl
-    by true p = absurd (let z : _≡_ {A = ℕ} 0 1 = cc in omega arith)
+no-space b t e = let both = and-eq-true-iff (not (eqb b 32)) t .0 e in (not-true (eqb b 32) (both .0), both .1)
 
 -- they are a field of their own, before a space and at a line's end
 field-first : (f s : List ℕ) → spaceless f ≡ true → fields (f ++ (32 ∷ s)) ≡ f ∷ fields s
@@ -145,10 +142,6 @@ field-last (b ∷ f) e = let both = no-space b (spaceless f) e in rw (both .0) (
 pub record Filled (f : List ℕ) : Type 0 where
   pub some : 1 ≤ length f
   pub whole : spaceless f ≡ true
-
-filled-some : (f : List ℕ) → 1 ≤ length f → is-empty f ≡ false
-filled-some [] l = absurd (omega arith)
-filled-some (b ∷ f) l = refl
 
 -- a word and one field, or two, that are filled, within 64 bytes
 module _ (known : List ℕ) (word-whole : spaceless known ≡ true) (f : List ℕ) (filled : Filled f) where
@@ -182,7 +175,7 @@ no-second asked NoNumber = refl
 
 two-by : (asked : ℕ → ℕ → Request) (f g : List ℕ) → Filled f → Filled g → {q : Request} → q ≡ of-two asked f g → Asked-two asked f g q
 two-by asked f g filled filled′ {q = asks} e =
-    let there : of-two asked f g ≡ by-two asked (numeral f) (numeral g) = rw (filled-some f (filled .some), filled-some g (filled′ .some)) refl in
+    let there : of-two asked f g ≡ by-two asked (numeral f) (numeral g) = rw (not-empty f (filled .some), not-empty g (filled′ .some)) refl in
     let is : asks ≡ by-two asked (numeral f) (numeral g) = e ∙ there in (
       λ x y p q. is ∙ ap₂ (by-two asked) p q,
       λ p. is ∙ ap (λ m. by-two asked m (numeral g)) p,
@@ -192,7 +185,7 @@ two-by asked f g filled filled′ {q = asks} e =
 pub number-line : (f : List ℕ) → Filled f → length (N ++ (32 ∷ f)) ≤ 64 → Asked-one AskNumber f (request (N ++ (32 ∷ f)))
 unfolding same-bytes spaceless
 number-line f filled l =
-    let there : two-fields N f ≡ by-one AskNumber (numeral f) = rw (filled-some f (filled .some)) refl in
+    let there : two-fields N f ≡ by-one AskNumber (numeral f) = rw (not-empty f (filled .some)) refl in
     let is : request (N ++ (32 ∷ f)) ≡ by-one AskNumber (numeral f) = one-read N refl f filled l ∙ there in
     (λ i e. is ∙ ap (by-one AskNumber) e, λ e. is ∙ ap (by-one AskNumber) e)
 

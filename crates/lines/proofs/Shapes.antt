@@ -17,15 +17,15 @@ empty : (s : List ℕ) → length s < 1 → is-empty s ≡ true
 empty [] l = refl
 empty (b ∷ s) l = absurd (omega arith)
 
-some : (s : List ℕ) → 1 ≤ length s → is-empty s ≡ false
-some [] l = absurd (omega arith)
-some (b ∷ s) l = refl
+pub not-empty : (s : List ℕ) → 1 ≤ length s → is-empty s ≡ false
+not-empty [] l = absurd (omega arith)
+not-empty (b ∷ s) l = refl
 
 pub one-empty : (asked : ℕ → Request) (a : List ℕ) → length a < 1 → Refused WrongShape ≡ of-one asked a
 one-empty asked a l = sym (rw (empty a l))
 
 pub one-there : (asked : ℕ → Request) (a : List ℕ) → 1 ≤ length a → (n : Numeral) → n ≡ numeral a → by-one asked n ≡ of-one asked a
-one-there asked a l n e = ap (by-one asked) e ∙ sym (rw (some a l))
+one-there asked a l n e = ap (by-one asked) e ∙ sym (rw (not-empty a l))
 
 pub first-empty : (asked : ℕ → ℕ → Request) (a b : List ℕ) → length a < 1 → Refused WrongShape ≡ of-two asked a b
 first-empty asked a b l = sym (rw (empty a l))
@@ -35,4 +35,4 @@ second-empty asked a b l = sym (rw (empty b l, or-true (is-empty a)))
 
 pub two-there : (asked : ℕ → ℕ → Request) (a b : List ℕ) → 1 ≤ length a → 1 ≤ length b → (m n : Numeral) → m ≡ numeral a → n ≡ numeral b
     → by-two asked m n ≡ of-two asked a b
-two-there asked a b l k m n e f = ap₂ (by-two asked) e f ∙ sym (rw (some a l, some b k))
+two-there asked a b l k m n e f = ap₂ (by-two asked) e f ∙ sym (rw (not-empty a l, not-empty b k))

@@ -1,4 +1,5 @@
--- Lists of numbers and figures compared by tests that compute, for the tables of worked cases. They render no sentence of document 01.
+-- Lists of numbers and figures compared by tests that compute, for the tables of worked cases, and apart from the definitions that these try. They render
+-- no sentence of document 01.
 use mathlib.Core.Bool.{Bool, true, false, _&&_}
 use mathlib.Core.List.{List, [], _∷_}
 use Prim.Native.Nat.{ℕ}

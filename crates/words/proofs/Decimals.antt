@@ -1,12 +1,12 @@
 -- A number in decimal is read back as itself, and nothing else is read so. One digit more on the right makes ten times the value and the digit, whether it
 -- is printed or read: so both go by induction over the digits; powers are needed only to count them.
-use mathlib.Core.Bool.{Bool, true, false, not, cond, _&&_, and-eq-true-iff}
+use mathlib.Core.Bool.{Bool, true, false, cond, _&&_, and-eq-true-iff}
 use mathlib.Core.List.{List, [], _∷_, _++_, append-nil, append-assoc}
 use mathlib.Core.Path.{_≡_, refl, sym, ap, ap₂, _∙_}
 use Prim.Native.Nat.{ℕ, zero, suc, _+_, _-_, _*_, _/_, _%_, _≤_, _<_, _^_}
 use native.Mathlib.Nat.{le-refl}
 use native.Mathlib.Omega.{arith}
-use borrow.Author.Tests.{ltb-true, ltb-false, lt-ltb, le-ltb, leb-true, le-leb, eqb-false, ne-eqb}
+use borrow.Author.Tests.{ltb-true, ltb-false, lt-ltb, le-ltb, leb-true, le-leb, eqb-false, ne-eqb, not-true}
 use lib.Dec.{leb, ltb, eqb}
 use lib.ListN.{length, length-append, getD, List·getD-append}
 use Rattle.words.specs.declared.Numeral.the-variants.{Value, NoNumber}
@@ -207,10 +207,6 @@ spelt (b ∷ c ∷ f) l e g =
     ap (λ z. z ∷ c ∷ f) same
     ∙ ap (λ ds. ds ++ (c ∷ f)) (sym (one-digit (0 * 10 + (b - 48)) (omega arith)))
     ∙ sym (decimal-on (0 * 10 + (b - 48)) (c ∷ f) (omega arith) (both .1))
-  where
-    not-true : (t : Bool) → not t ≡ true → t ≡ false
-    not-true false q = refl
-    not-true true q = absurd (let z : _≡_ {A = ℕ} 0 1 = cc in omega arith)
 
 -- It is the only text of that number that the reader takes.
 pub only-text : (f : List ℕ) (n : ℕ) → numeral f ≡ Value n → f ≡ decimal n
