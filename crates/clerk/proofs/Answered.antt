@@ -7,7 +7,7 @@ use Prim.Native.Nat.{ℕ, _-_, _*_, _≤_}
 use native.Mathlib.Omega.{arith}
 use Rattle.terms.specs.declared.Area.{Area}
 use Rattle.terms.specs.declared.Refusal.{Refusal}
-use Rattle.terms.specs.Terms.{accepted, refusal-number, answered, refused}
+use Rattle.terms.specs.Terms.{accepted, area-refusal, refusal-number, answered, refused}
 use Rattle.terms.proofs.Laws.{limits, refusal-not-0}
 use Rattle.curve.specs.Lookups.{number-to-square, square-to-number, finish-square}
 use Rattle.lines.specs.declared.Request as Requests
@@ -66,5 +66,5 @@ module _ (clerk : Clerk) (w h : ℕ) where
       ap (spec.due clerk) (area-spelt w h (omega arith) (omega arith)) ∙ rw ok refl
 
   pub area-refused : w ≤ 4294967295 → h ≤ 4294967295 → accepted w h ≡ false → spec.reply clerk (with-two AREA w h) ≡ spec.says spec.Refused (1 ∷ [])
-  unfolding spec.reply finish-square
+  unfolding spec.reply finish-square area-refusal
   area-refused most most′ bad = ap (spec.due clerk) (area-spelt w h most most′) ∙ rw bad refl

@@ -9,7 +9,7 @@ use lib.Dec.{eqb, lit<, lit≤}
 use lib.ListN.{getD, take}
 use lib.Seq.{getD-take}
 use Rattle.terms.specs.declared.Area.{Area}
-use Rattle.terms.specs.Terms.{accepted, Figures}
+use Rattle.terms.specs.Terms.{accepted, area-refusal, refusal-number, Figures}
 use Rattle.terms.proofs.Laws.{limits}
 use Rattle.curve.specs.Lookups.{number-to-square, square-to-number, finish-square}
 use Rattle.lines.specs.declared.Request.{Request}
@@ -22,7 +22,7 @@ use Rattle.lines.proofs.Asking.{with-one, with-two, Says, says-so, area-spelt}
 use Rattle.clerk.specs.declared.Clerk.{Clerk}
 use Rattle.clerk.specs.declared.Clerk.the-variants.{NoArea, InForce}
 use Rattle.clerk.specs.Clerk as spec
-use Rattle.clerk.proofs.Handling.{value, word-mark, mark}
+use Rattle.clerk.proofs.Handling.{value, word-mark, mark, told-refused}
 
 -- a reply with another word than AREA
 told-other : (word : spec.Word) (first : List ℕ) (f : Figures) (b : Bool) → 1 ≤ word-mark word
@@ -39,6 +39,10 @@ under-other (InForce area) word f l e = told-other word [] (f area) (eqb (f area
 abbrev to-area : ℕ → ℕ → spec.Said
 to-area w h = spec.told spec.Area-set (w ∷ h ∷ (w * h) ∷ []) (finish-square w h)
 
+to-no-area : (w h : ℕ) → accepted w h ≡ false → to-area w h ≡ spec.says spec.Refused (refusal-number (area-refusal w h) ∷ [])
+unfolding finish-square
+to-no-area w h bad = rw bad (sym (told-refused spec.Area-set (w ∷ h ∷ (w * h) ∷ []) (area-refusal w h) 2))
+
 module _ (v u w h : ℕ) (rest : List ℕ) (e : to-area v u ≡ spec.says spec.Area-set (w ∷ h ∷ rest)) where
   set-by : (t : Bool) → accepted v u ≡ t → spec.in-force (record { w = v; h = u }) ≡ InForce (record { w = w; h = h })
   unfolding finish-square
@@ -46,7 +50,7 @@ module _ (v u w h : ℕ) (rest : List ℕ) (e : to-area v u ≡ spec.says spec.A
       let is : to-area v u ≡ spec.says spec.Area-set (v ∷ u ∷ (v * u) ∷ finish-square v u .values) = rw ok refl in
       rw ok (λ i. InForce (record { w = value 0 ((sym is ∙ e) i); h = value 1 ((sym is ∙ e) i) }))
   set-by false bad =
-      let is : mark (to-area v u) ≡ 3 = rw bad refl in
+      let is : mark (to-area v u) ≡ 3 = ap mark (to-no-area v u bad) in
       let other : mark (to-area v u) ≡ 0 = ap mark e in
       absurd (omega arith)
 
@@ -70,7 +74,7 @@ module _ (w h : ℕ) where
   set-or-refused : (t : Bool) → accepted w h ≡ t → mark (to-area w h) ≡ cond t 0 3
   unfolding finish-square
   set-or-refused true e = rw e refl
-  set-or-refused false e = rw e refl
+  set-or-refused false e = ap mark (to-no-area w h e)
 
   refused-set : to-area w h .word ≡ spec.Refused → accepted w h ≡ false
   refused-set e = by (accepted w h) refl
@@ -85,7 +89,7 @@ module _ (w h : ℕ) where
     where
       by : (t : Bool) → accepted w h ≡ t → accepted w h ≡ true
       by true p = p
-      by false p = absurd (n (rw p refl))
+      by false p = absurd (n (ap (λ s. s .word) (to-no-area w h p)))
 
 -- no line begins with a letter other than A and with AREA
 other-letter : (line said : List ℕ) → (getD said 0 0 ≡ 65 → ⊥) → line ≡ said → take 4 line ≡ AREA → ⊥

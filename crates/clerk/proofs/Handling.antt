@@ -9,7 +9,7 @@ use denote.Enum.Declared.{tagOf}
 use borrow.Author.Tests.{ne-eqb}
 use lib.ListN.{getD}
 use Rattle.terms.specs.declared.Refusal.{Refusal}
-use Rattle.terms.specs.Terms.{accepted, refusal-number, answered, refused}
+use Rattle.terms.specs.Terms.{accepted, area-refusal, refusal-number, answered, refused}
 use Rattle.terms.proofs.Laws.{squares-limit, refusal-some}
 use Rattle.curve.specs.Lookups.{finish-square}
 use Rattle.lines.specs.declared.Request.{Request}
@@ -44,9 +44,8 @@ found-fits w h x y e = by (accepted w h) refl
     by : (t : Bool) → accepted w h ≡ t → w * h < 4294967296
     by true ok = squares-limit w h ok
     by false bad =
-        let is : finish-square w h .refusal ≡ 1 = rw bad refl in
-        let found : 0 ≡ finish-square w h .refusal = ap (λ f. f .refusal) e in
-        absurd (omega arith)
+        let is : finish-square w h .refusal ≡ refusal-number (area-refusal w h) = rw bad refl in
+        absurd (refusal-some (area-refusal w h) (sym is ∙ sym (ap (λ f. f .refusal) e)))
 
 -- the clerk after a refused line, which begins with AREA or does not, and after one that asks
 module _ (clerk : Clerk) {begins : Bool} {q : Request} {r : Refusal} (is : q ≡ Refused r) where

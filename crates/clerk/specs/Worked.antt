@@ -7,7 +7,7 @@ use Prim.Native.Nat.{ℕ}
 use Prim.Native.String.{String}
 use lib.Dec.{T, eqb}
 use lib.ListN.{replicate}
-use Rattle.terms.specs.Terms.{accepted}
+use Rattle.terms.specs.Terms.{accepted, area-refusal}
 use Rattle.terms.specs.Comparing.{same-numbers}
 use Rattle.curve.specs.Lookups.{number-to-square, square-to-number, finish-square}
 use Rattle.words.specs.Letters.{bytes}
@@ -74,7 +74,7 @@ right (long-stays line r) = is-refusal r (reply three-by-four line) && holds 3 4
 right (long-clears line r) = is-refusal r (reply three-by-four line) && holds-none (after three-by-four line)
 
 pub all-right : List Case → Bool
-unfolding right accepted number-to-square square-to-number finish-square
+unfolding right accepted area-refusal number-to-square square-to-number finish-square
 all-right [] = true
 all-right (c ∷ cs) = right c && all-right cs
 

@@ -8,7 +8,7 @@ use native.Mathlib.Omega.{arith}
 use borrow.Author.Tests.{lt-ltb, le-leb, ltb-true, ltb-false}
 use lib.Dec.{ltb, eqb, lit<, lit≤}
 use Rattle.terms.specs.declared.Refusal.{Refusal}
-use Rattle.terms.specs.Terms.{accepted, Figures, answered}
+use Rattle.terms.specs.Terms.{accepted, area-refusal, Figures, answered, refused}
 use Rattle.terms.proofs.Laws.{limits, named, named-back, refusal-some, refusal-not-0, value}
 use Rattle.terms.proofs.Ones.{by-figures}
 use Rattle.division.specs.declared.Choice.the-variants.{UCut}
@@ -43,12 +43,16 @@ module _ (w h : ℕ) (yes : accepted w h ≡ true) where
       let few = at-most-54 w h (all .w-least) (all .w-most) (all .h-least) (all .h-most) (square x y) in
       rw (yes, lt-ltb x w l, lt-ltb y h m, le-leb (blocks-holding (whole w h) (square x y)) 64 (omega arith))
 
+-- an area's refusal is no answer
+area-none : (w h n : ℕ) {values : List ℕ} → refused (area-refusal w h) n ≡ answered values → ⊥
+area-none w h n e = refusal-some (area-refusal w h) (ap (λ f. f .refusal) e)
+
 -- an answered lookup was asked for a number, or a square, of an accepted area
 number-by : (w h n : ℕ) (values : List ℕ) (a b : Bool) → accepted w h ≡ a → ltb n (w * h) ≡ b → number-to-square w h n ≡ answered values
     → (accepted w h ≡ true) × (n < w * h)
 number-by w h n values true true p q e = (p, ltb-true n (w * h) q)
 number-by w h n values true false p q e = absurd (omega (arith, ap (λ f. f .refusal) (number-outside w h p n (ltb-false n (w * h) q) ∙ e)))
-number-by w h n values false b p q e = absurd (omega (arith, ap (λ f. f .refusal) (square-limit w h p n ∙ e)))
+number-by w h n values false b p q e = absurd (area-none w h 3 (square-limit w h p (area-refusal w h) refl n ∙ e))
 
 pub number-asked : (w h n : ℕ) (values : List ℕ) → number-to-square w h n ≡ answered values → (accepted w h ≡ true) × (n < w * h)
 number-asked w h n values e = number-by w h n values (accepted w h) (ltb n (w * h)) refl refl e
@@ -59,7 +63,7 @@ square-by w h x y values true true true p q r e = (p, ltb-true x w q, ltb-true y
 square-by w h x y values true true false p q r e =
     absurd (omega (arith, ap (λ f. f .refusal) (y-outside w h p x y (ltb-true x w q) (ltb-false y h r) ∙ e)))
 square-by w h x y values true false c p q r e = absurd (omega (arith, ap (λ f. f .refusal) (x-outside w h p x y (ltb-false x w q) ∙ e)))
-square-by w h x y values false b c p q r e = absurd (omega (arith, ap (λ f. f .refusal) (number-limit w h p x y ∙ e)))
+square-by w h x y values false b c p q r e = absurd (area-none w h 2 (number-limit w h p (area-refusal w h) refl x y ∙ e))
 
 square-asked : (w h x y : ℕ) (values : List ℕ) → square-to-number w h x y ≡ answered values → (accepted w h ≡ true) × (x < w) × (y < h)
 square-asked w h x y values e = square-by w h x y values (accepted w h) (ltb x w) (ltb y h) refl refl refl e

@@ -3,8 +3,8 @@ use mathlib.Core.Bool.{_&&_, cond}
 use mathlib.Core.List.{List, [], _∷_}
 use Prim.Native.Nat.{ℕ, _-_, _*_}
 use lib.Dec.{leb, ltb}
-use Rattle.terms.specs.declared.Refusal.the-variants.{AreaLimit, SquareOutside, NumberOutside, TooDeep}
-use Rattle.terms.specs.Terms.{accepted, Figures, answered, refused}
+use Rattle.terms.specs.declared.Refusal.the-variants.{SquareOutside, NumberOutside, TooDeep}
+use Rattle.terms.specs.Terms.{Figures, answered, refused, on-area}
 use Rattle.division.specs.Division.{square, whole, square-of, number-of, blocks-holding}
 use Rattle.curve.specs.declared.SquareAnswer as SquareAnswers
 use Rattle.curve.specs.declared.NumberAnswer as NumberAnswers
@@ -21,21 +21,17 @@ unfoldable pub number-to-square : (w h number : ℕ) → Figures
 number-to-square w h number =
     let s = square-of (whole w h) number in
     let n = blocks-holding (whole w h) s in
-    cond (accepted w h)
-    (cond (ltb number (w * h)) (unless-deep n (s .x ∷ s .y ∷ n ∷ []) 3) (refused NumberOutside 3))
-    (refused AreaLimit 3)
+    on-area w h 3 (cond (ltb number (w * h)) (unless-deep n (s .x ∷ s .y ∷ n ∷ []) 3) (refused NumberOutside 3))
 
 -- "square to number: the number; the same"
 unfoldable pub square-to-number : (w h x y : ℕ) → Figures
 square-to-number w h x y =
     let n = blocks-holding (whole w h) (square x y) in
-    cond (accepted w h)
-    (cond (ltb x w && ltb y h) (unless-deep n (number-of (whole w h) (square x y) ∷ n ∷ []) 2) (refused SquareOutside 2))
-    (refused AreaLimit 2)
+    on-area w h 2 (cond (ltb x w && ltb y h) (unless-deep n (number-of (whole w h) (square x y) ∷ n ∷ []) 2) (refused SquareOutside 2))
 
 -- "finish square: (w - 1, 0), after document 002, section 3.2; none". It needs no descent, so that 9 is not one of its refusals.
 unfoldable pub finish-square : (w h : ℕ) → Figures
-finish-square w h = cond (accepted w h) (answered ((w - 1) ∷ 0 ∷ [])) (refused AreaLimit 2)
+finish-square w h = on-area w h 2 (answered ((w - 1) ∷ 0 ∷ []))
 
 -- The figures of each answer: "the number, all else 0" where it is refused.
 abbrev pub square-figures : SquareAnswers.SquareAnswer → Figures

@@ -5,7 +5,7 @@ use mathlib.Core.Bool.{Bool, true, _&&_}
 use mathlib.Core.List.{List, [], _∷_}
 use Prim.Native.Nat.{ℕ}
 use lib.Dec.{T}
-use Rattle.terms.specs.Terms.{accepted}
+use Rattle.terms.specs.Terms.{accepted, area-refusal}
 use Rattle.terms.specs.Comparing.{same-numbers, same-figures}
 use Rattle.curve.specs.Lookups.{unless-deep, number-to-square, square-to-number, finish-square}
 
@@ -73,5 +73,5 @@ worked =
     ∷ []
 
 pub worked-right : T (all-right worked)
-unfolding worked all-right right same-figures same-numbers number-to-square square-to-number finish-square accepted
+unfolding worked all-right right same-figures same-numbers number-to-square square-to-number finish-square accepted area-refusal
 worked-right = tt

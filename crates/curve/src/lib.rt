@@ -32,21 +32,19 @@ pub fn number_to_square(area: Area, number: u32) -> SquareAnswer
     let w = area.w;
     let h = area.h;
     if !terms::accepts(area) {
-        return SquareAnswer::Refused(Refusal::AreaLimit);
+        return SquareAnswer::Refused(terms::area_refusal(area));
     }
     if w * h <= number {
         return SquareAnswer::Refused(Refusal::NumberOutside);
     }
-    // x, y and the count, of 8 bits, in one word: see `square_word` in descents.
-    let word = descents::descend(0, 0, false, false, w, h, number, 0);
-    let blocks = (word % 256) as u32;
-    if MOST_BLOCKS < blocks {
+    let held = descents::square_at(w, h, number);
+    if MOST_BLOCKS < held.blocks {
         return SquareAnswer::Refused(Refusal::TooDeep);
     }
     SquareAnswer::Found {
-        x: (word / 16777216) as u32,
-        y: (word / 256 % 65536) as u32,
-        blocks: blocks,
+        x: held.x,
+        y: held.y,
+        blocks: held.blocks,
     }
 }
 
@@ -57,7 +55,7 @@ pub fn square_to_number(area: Area, x: u32, y: u32) -> NumberAnswer
     let w = area.w;
     let h = area.h;
     if !terms::accepts(area) {
-        return NumberAnswer::Refused(Refusal::AreaLimit);
+        return NumberAnswer::Refused(terms::area_refusal(area));
     }
     if w <= x {
         return NumberAnswer::Refused(Refusal::SquareOutside);
@@ -65,14 +63,13 @@ pub fn square_to_number(area: Area, x: u32, y: u32) -> NumberAnswer
     if h <= y {
         return NumberAnswer::Refused(Refusal::SquareOutside);
     }
-    let word = searches::search(w, h, x, y, 0, 0);
-    let blocks = (word % 256) as u32;
-    if MOST_BLOCKS < blocks {
+    let found = searches::number_at(w, h, x, y);
+    if MOST_BLOCKS < found.blocks {
         return NumberAnswer::Refused(Refusal::TooDeep);
     }
     NumberAnswer::Found {
-        number: (word / 256) as u32,
-        blocks: blocks,
+        number: found.number,
+        blocks: found.blocks,
     }
 }
 
@@ -82,7 +79,7 @@ pub fn finish_square(area: Area) -> FinishAnswer
 {
     let w = area.w;
     if !terms::accepts(area) {
-        return FinishAnswer::Refused(Refusal::AreaLimit);
+        return FinishAnswer::Refused(terms::area_refusal(area));
     }
     FinishAnswer::Found { x: w - 1, y: 0 }
 }

@@ -2,24 +2,25 @@
 use mathlib.Core.Bool.{Bool, true, false, cond}
 use mathlib.Core.List.{List, [], _∷_, _++_}
 use mathlib.Core.Path.{_≡_, refl, sym, ap, ap₂, subst, subst⁻¹, _∙_}
-use Prim.Native.Nat.{ℕ, suc, _+_, _-_, _*_, _/_, _≤_, _<_}
+use Prim.Native.Nat.{ℕ, suc, _+_, _-_, _*_, _/_, _%_, _≤_, _<_}
 use native.Mathlib.Nat.{mul-one, one-mul}
 use native.Mathlib.Omega.{arith}
 use borrow.Author.Tests.{leb-true, leb-false}
 use lib.Dec.{leb}
 use Rattle.division.specs.declared.Choice.the-variants.{StraightRun, StraightSide, LongCut, UCut}
 use Rattle.division.specs.declared.Placed.{Placed}
-use Rattle.division.specs.Division.{Square, square, moved, Block, choice, even-half, First, Second, A, B, C, part, parts, parts-of, square-of, blocks-holding}
-use Rattle.division.specs.Division.Inside.{Sized, Inside}
-use Rattle.division.specs.Division.Rules.{All, Chosen, is-run, is-side, is-long, is-u, chosen, Smaller, smaller, parts-are, halves}
-use Rattle.division.specs.Forms.{block, stepped-to}
+use Rattle.division.specs.Division.{Square, square, moved, Block, whole, choice, even-half, First, Second, A, B, C, part, parts, parts-of, square-of, blocks-holding}
+use Rattle.division.specs.Division.Inside.{Inside}
+use Rattle.division.specs.Division.Rules.{All, Smaller, smaller, parts-are, halves}
+use Rattle.division.specs.Forms.{block, block-at, stepped-to, Steps}
 use Rattle.division.proofs.Cases.{long-lengths, u-lengths, run-length, side-length, rule}
 use Rattle.division.proofs.Sums.{total, all-right}
 use Rattle.division.proofs.Cuts.{area, long-areas}
 use Rattle.division.proofs.Once.{square-held}
+use Rattle.division.proofs.Local.{whole-within}
 use Rattle.division.proofs.Descent.{part-inside, square-in, holding-in, straight-holding, run-square, side-square}
-use Rattle.division.proofs.Walks.{a-limit, b-limit, product-limit, u-sum, Sums-fit, sums-fit, run-moved, side-moved}
-use Rattle.descents.specs.Descents.{square-word, Enters, Descends, descent-word}
+use Rattle.division.proofs.Walks.{a-limit, b-limit, product-limit, u-sum, Sums-fit, sums-fit, run-moved, side-moved, steps-along, steps-across}
+use Rattle.descents.specs.Descents.{square-word, held-in, held, Enters, Descends, descent-word}
 
 enters : (k : Block) → Inside 65535 65535 k → (before : List Block) (q : Block) (after : List Block) → parts k ≡ before ++ (q ∷ after)
     → (i j : ℕ) → total area before + j ≡ i → j < area q → Enters k i q j
@@ -56,25 +57,6 @@ rest-by i e b false p = omega arith
 
 pub rest-of : (i e b skip : ℕ) → skip ≡ cond (leb (e * b) i) e 0 → skip * b ≤ i
 rest-of i e b skip p = subst⁻¹ (λ (n : ℕ). n * b ≤ i) p (rest-by i e b (leb (e * b) i) refl)
-
--- a block that is not straight has lengths from 2 on, and a cut that is not long is a U cut
-pub not-straight : (k : Block) → Sized k → (choice (k .a) (k .b) ≡ StraightRun → ⊥) → (choice (k .a) (k .b) ≡ StraightSide → ⊥) → (2 ≤ k .a) × (2 ≤ k .b)
-not-straight k h r s = by (chosen k h)
-  where
-    by : Chosen (k .a) (k .b) → (2 ≤ k .a) × (2 ≤ k .b)
-    by (is-run e b) = absurd (r e)
-    by (is-side e a b) = absurd (s e)
-    by (is-long e a b l) = (a, b)
-    by (is-u e a b l) = (a, b)
-
-pub not-long : (k : Block) → Sized k → 2 ≤ k .a → 2 ≤ k .b → (choice (k .a) (k .b) ≡ LongCut → ⊥) → choice (k .a) (k .b) ≡ UCut
-not-long k h la lb f = by (chosen k h)
-  where
-    by : Chosen (k .a) (k .b) → choice (k .a) (k .b) ≡ UCut
-    by (is-run e b) = absurd (omega arith)
-    by (is-side e a b) = absurd (omega arith)
-    by (is-long e a b l) = absurd (f e)
-    by (is-u e a b l) = e
 
 -- the parts of a U cut: A has the numbers below e·m, B the a·(b - e) after them, C the rest
 pub block-sums : (k : Block) → Inside 65535 65535 k → choice (k .a) (k .b) ≡ UCut → (e : ℕ) → e ≡ even-half (k .b) → Sums-fit 0 (k .a) (k .b) e
@@ -146,6 +128,14 @@ module _ {k : Block} {i above : ℕ} (r : Descends k i above) where
     side-word =
         ap₂ square-word (sym (side-square k (rule k StraightSide (r .inside .sized) c .0) i side-below)) (ap (λ n. above + n) (sym side-alone))
 
+-- so that the steps along a straight block stay within the limit
+module _ (along across : ℕ) (turned back : Bool) {a b i above : ℕ} (r : Descends (block-at along across turned back a b) i above) where
+  pub run-steps : choice a b ≡ StraightRun → Steps along i back
+  run-steps c = steps-along (record { along = along; across = across; turned = turned; back = back; a = a; b = b }) (r .inside) i (run-below r c)
+
+  pub side-steps : choice a b ≡ StraightSide → Steps across i back
+  side-steps c = steps-across (record { along = along; across = across; turned = turned; back = back; a = a; b = b }) (r .inside) i (side-below r c)
+
 module _ {k : Block} {i above : ℕ} (r : Descends k i above) {q : Block} {j : ℕ} (l : Enters k i q j) where
   blocks-there : above + 1 + blocks-holding q (square-of q j) ≡ above + blocks-holding k (square-of k i)
   blocks-there =
@@ -161,3 +151,31 @@ module _ {k : Block} {i above : ℕ} (r : Descends k i above) {q : Block} {j : �
 
   pub next-word : descent-word q j (above + 1) ≡ descent-word k i above
   next-word = ap₂ square-word (l .square) blocks-there
+
+-- what is packed into a word is what is taken out of it
+pub taken-out : (s : Square) (blocks : ℕ) → s .x < 65536 → s .y < 65536 → blocks < 256 → held-in (square-word s blocks) ≡ held s blocks
+taken-out s blocks x y few =
+    let x-is : square-word s blocks / 16777216 % 65536 ≡ s .x = omega arith in
+    let y-is : square-word s blocks / 256 % 65536 ≡ s .y = omega arith in
+    let blocks-is : square-word s blocks % 256 ≡ blocks = omega arith in
+    λ i. record { x = x-is i; y = y-is i; blocks = blocks-is i }
+
+-- a descent from the whole area: its square is within the limit, and the word holds it
+module _ (w h number : ℕ) (r : Descends (whole w h) number 0) where
+  pub from-whole : Descends (block-at 0 0 false false w h) number 0
+  unfolding whole
+  from-whole = r
+
+  pub word-holds : (word : ℕ) → word ≡ descent-word (block-at 0 0 false false w h) number 0
+      → held-in word ≡ held (square-of (whole w h) number) (blocks-holding (whole w h) (square-of (whole w h) number))
+  unfolding whole
+  word-holds word e =
+      let s = square-of (whole w h) number in
+      let there = whole-within w h s (square-held 65535 65535 (whole w h) (r .inside) number (r .below)) in
+      let right = there .run in
+      let up = there .side in
+      let wide = a-limit (whole w h) (r .inside) in
+      let high = b-limit (whole w h) (r .inside) in
+      let few = r .count in
+      let all : 0 + blocks-holding (whole w h) s ≡ blocks-holding (whole w h) s = omega arith in
+      ap held-in e ∙ taken-out s (0 + blocks-holding (whole w h) s) (omega arith) (omega arith) (omega arith) ∙ ap (held s) all

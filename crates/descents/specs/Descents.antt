@@ -1,12 +1,20 @@
 -- What a descent asks and returns, and each step of it: of a number, document 01's "A lookup goes down into the one part that holds it and skips
 -- the others by their areas." It returns a word, in which the code holds a square and a count of blocks below 256.
 use mathlib.Core.Path.{_≡_}
-use Prim.Native.Nat.{ℕ, suc, _+_, _*_, _<_}
+use Prim.Native.Nat.{ℕ, suc, _+_, _*_, _/_, _%_, _<_}
 use Rattle.division.specs.Division.{Square, Block, square-of, blocks-holding}
 use Rattle.division.specs.Division.Inside.{Inside}
+use Rattle.descents.specs.declared.Held.{Held}
 
 abbrev pub square-word : Square → ℕ → ℕ
 square-word s blocks = (s .x * 65536 + s .y) * 256 + blocks
+
+abbrev pub held-in : (word : ℕ) → Held
+held-in word = record { x = word / 16777216 % 65536; y = word / 256 % 65536; blocks = word % 256 }
+
+-- A square with a count of blocks, as the code has them outside of the word.
+abbrev pub held : Square → ℕ → Held
+held s blocks = record { x = s .x; y = s .y; blocks = blocks }
 
 -- One step down from a block's number i to number j of a smaller block in it: the same square, and one block more that holds it.
 pub record Enters (k : Block) (i : ℕ) (q : Block) (j : ℕ) : Type 0 where

@@ -3,14 +3,21 @@ use division::Choice;
 use division::Placed;
 ghost use mathlib.Core.Path.{_≡_};
 ghost use mathlib.Core.Bool.{cond};
-ghost use Prim.Native.Nat.{_*_, _≤_, _<_};
+ghost use Prim.Native.Nat.{_*_, _<_};
 ghost use Rattle.division.specs.declared.Choice.the-variants.{LongCut, UCut};
-ghost use Rattle.division.specs.Division.{square, moved, choice};
+ghost use Rattle.division.specs.Division.{square, moved, whole, choice, square-of, blocks-holding};
 ghost use Rattle.division.specs.Division.Inside.{Inside};
 ghost use Rattle.division.specs.Forms.{block, block-at, Steps};
-ghost use Rattle.descents.specs.Descents.{square-word, Enters, Descends, descent-word};
+ghost use Rattle.descents.specs.Descents.{square-word, held, held-in, Enters, Descends, descent-word};
 
-// A square and a count in one word: a number that a descent returns costs it no copy.
+// A square, and how many blocks of the division hold it.
+pub struct Held {
+    pub x: u32,
+    pub y: u32,
+    pub blocks: u32,
+}
+
+// Both in one word, since a number that a descent returns costs it no copy; and out of the word again.
 fn square_word(along: u32, across: u32, turned: bool, blocks: u32) -> u64
     ensures { λ r. ⌜ r ≡ square-word (cond turned (square across along) (square along across)) blocks ⌝ }
 {
@@ -19,28 +26,38 @@ fn square_word(along: u32, across: u32, turned: bool, blocks: u32) -> u64
     (x as u64 * 65536 + y as u64) * 256 + blocks as u64
 }
 
+fn held_in(word: u64) -> Held
+    ensures { λ r. ⌜ r ≡ held-in word ⌝ }
+{
+    Held {
+        x: (word / 16777216 % 65536) as u32,
+        y: (word / 256 % 65536) as u32,
+        blocks: (word % 256) as u32,
+    }
+}
+
 // A part of a block, and a number in that part.
-struct Inner {
+struct Below {
     part: Placed,
     i: u32,
 }
 
 // The part of a long cut that has the number i, with the rest of it.
-fn long_with(k: Placed, i: u32) -> Inner
+fn long_with(k: Placed, i: u32) -> Below
     requires { ⌜ Inside 65535 65535 (block k) × (i < k .a * k .b) × (choice (k .a) (k .b) ≡ LongCut) ⌝ }
     ensures { λ r. ⌜ Enters (block k) i (block (r .part)) (r .i) ⌝ }
 {
     let e = division::even_half(k.a);
     let second = e * k.b <= i;
     let part = division::long_part(k, second);
-    Inner {
+    Below {
         part: part,
         i: i - division::either(second, e, 0) * k.b,
     }
 }
 
 // The part of a U cut that has the number i, with the rest of it.
-fn u_with(k: Placed, i: u32) -> Inner
+fn u_with(k: Placed, i: u32) -> Below
     requires { ⌜ Inside 65535 65535 (block k) × (i < k .a * k .b) × (choice (k .a) (k .b) ≡ UCut) ⌝ }
     ensures { λ r. ⌜ Enters (block k) i (block (r .part)) (r .i) ⌝ }
 {
@@ -48,31 +65,20 @@ fn u_with(k: Placed, i: u32) -> Inner
     let to_b = e * (k.a / 2);
     if i < to_b {
         let part = division::part_a(k);
-        return Inner { part: part, i: i };
+        return Below { part: part, i: i };
     }
     let to_c = to_b + k.a * (k.b - e);
     if i < to_c {
         let part = division::part_b(k);
-        return Inner {
+        return Below {
             part: part,
             i: i - to_b,
         };
     }
     let part = division::part_c(k);
-    Inner {
+    Below {
         part: part,
         i: i - to_c,
-    }
-}
-
-// The part of a cut block that has the number i, with the rest of it.
-fn part_with(k: Placed, case: Choice, i: u32) -> Inner
-    requires { ⌜ Inside 65535 65535 (block k) × (i < k .a * k .b) × (case ≡ choice (k .a) (k .b)) × (2 ≤ k .a) × (2 ≤ k .b) ⌝ }
-    ensures { λ r. ⌜ Enters (block k) i (block (r .part)) (r .i) ⌝ }
-{
-    match case {
-        Choice::LongCut => long_with(k, i),
-        _ => u_with(k, i),
     }
 }
 
@@ -103,7 +109,7 @@ fn side_word(k: Placed, i: u32, blocks: u32) -> u64
 
 // The square of a block's number i, and how many blocks hold it when `above` hold the block. The call on the part is the last act, so that it
 // compiles to a loop.
-pub fn descend(
+fn descend(
     along: u32,
     across: u32,
     turned: bool,
@@ -128,8 +134,22 @@ pub fn descend(
     match case {
         Choice::StraightRun => run_word(k, i, above + 1),
         Choice::StraightSide => side_word(k, i, above + 1),
-        _ => {
-            let t = part_with(k, case, i);
+        Choice::LongCut => {
+            let t = long_with(k, i);
+            let q = t.part;
+            descend(
+                q.along,
+                q.across,
+                q.turned,
+                q.back,
+                q.a,
+                q.b,
+                t.i,
+                above + 1,
+            )
+        }
+        Choice::UCut => {
+            let t = u_with(k, i);
             let q = t.part;
             descend(
                 q.along,
@@ -143,4 +163,13 @@ pub fn descend(
             )
         }
     }
+}
+
+// The square of an area's number, and how many blocks hold it.
+pub fn square_at(w: u32, h: u32, number: u32) -> Held
+    requires { ⌜ Descends (whole w h) number 0 ⌝ }
+    ensures { λ r. ⌜ r ≡ held (square-of (whole w h) number) (blocks-holding (whole w h) (square-of (whole w h) number)) ⌝ }
+{
+    let word = descend(0, 0, false, false, w, h, number, 0);
+    held_in(word)
 }

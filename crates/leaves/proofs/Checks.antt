@@ -3,13 +3,20 @@
 use mathlib.Core.Bool.{Bool, true, false, cond}
 use mathlib.Core.List.{List, [], _∷_}
 use mathlib.Core.Path.{_≡_, refl, sym, ap, ap₂, subst, subst⁻¹, _∙_}
-use Prim.Native.Nat.{ℕ, zero, suc, _+_, _≤_, _<_, min}
+use Prim.Native.Nat.{ℕ, zero, suc, _+_, _/_, _%_, _≤_, _<_, min}
 use native.Mathlib.Nat.{add-zero, suc-add, add-suc, le-of-suc-le-suc}
 use native.Mathlib.Omega.{arith}
 use borrow.Author.Tests.{ltb-true, ltb-false, eq-eqb, ne-eqb, eqb-false}
 use lib.Dec.{ltb, eqb}
 use lib.ListN.{length, getD}
-use Rattle.leaves.specs.Walk.{over, wrong-at, least-one}
+use Rattle.leaves.specs.Walk.{over, wrong-at, wrong-in, least-one}
+
+-- what is packed into a word is what is taken out of it
+pub taken-out : (place due : ℕ) → due < 4294967296 → wrong-in (wrong-at place due) ≡ record { place = place; due = due }
+taken-out place due l =
+    let place-is : wrong-at place due / 4294967296 ≡ place = omega arith in
+    let due-is : wrong-at place due % 4294967296 ≡ due = omega arith in
+    λ i. record { place = place-is i; due = due-is i }
 
 -- one look, as the code has it
 module _ (by-square : Bool) (t : List ℕ) (least n p i v : ℕ) (there : i ≡ cond by-square p n) (due : v ≡ cond by-square n p) where
@@ -21,11 +28,11 @@ module _ (by-square : Bool) (t : List ℕ) (least n p i v : ℕ) (there : i ≡ 
       ap₂ (λ j u. min least (wrong-at j u)) there due
       ∙ sym (rw (ne-eqb (getD t (cond by-square p n) 0) (cond by-square n p) (λ same. other (ap (λ j. getD t j 0) there ∙ same ∙ sym due))))
 
-  pub lower-one : (getD t i 0 ≡ v → ⊥) → wrong-at i v < least → wrong-at i v ≡ least-one by-square t least n p
-  lower-one other l = omega arith ∙ wrong-one other
+  pub lower-one : (getD t i 0 ≡ v → ⊥) → (word : ℕ) → word ≡ wrong-at i v → word < least → word ≡ least-one by-square t least n p
+  lower-one other word is l = omega arith ∙ wrong-one other
 
-  pub higher-one : (getD t i 0 ≡ v → ⊥) → least ≤ wrong-at i v → least ≡ least-one by-square t least n p
-  higher-one other l = omega arith ∙ wrong-one other
+  pub higher-one : (getD t i 0 ≡ v → ⊥) → (word : ℕ) → word ≡ wrong-at i v → least ≤ word → least ≡ least-one by-square t least n p
+  higher-one other word is l = omega arith ∙ wrong-one other
 
 module _ (by-square : Bool) (t : List ℕ) where
   -- the place that a look at square number n, at place p, is at, and whether it is right

@@ -3,11 +3,12 @@
 use mathlib.Core.Bool.{Bool, cond}
 use mathlib.Core.List.{List, [], _∷_, map}
 use mathlib.Core.Path.{_≡_}
-use Prim.Native.Nat.{ℕ, suc, _+_, _*_, _≤_, min}
+use Prim.Native.Nat.{ℕ, suc, _+_, _*_, _/_, _%_, _≤_, min}
 use lib.Dec.{eqb}
 use lib.ListN.{length, getD, set}
 use Rattle.division.specs.Division.{Square, Block, moved, curve}
 use Rattle.division.specs.Division.Inside.{Inside}
+use Rattle.leaves.specs.declared.Wrong.{Wrong}
 
 -- A square's place in a table by square, which is what a table by number holds.
 abbrev pub place : (w : ℕ) → Square → ℕ
@@ -31,6 +32,9 @@ filled-with by-square w t k at = over-block (enter-one by-square) t w k at
 -- A wrong place and the value due there as one number: of two, the lesser place has the lesser number.
 abbrev pub wrong-at : (place due : ℕ) → ℕ
 wrong-at place due = place * 4294967296 + due
+
+abbrev pub wrong-in : (word : ℕ) → Wrong
+wrong-in word = record { place = word / 4294967296; due = word % 4294967296 }
 
 -- The least wrong place so far, with square number n, at place p, looked at: by square n is due at p, else p at n. So, with a block's squares.
 abbrev pub least-one : (by-square : Bool) → List ℕ → (least n p : ℕ) → ℕ

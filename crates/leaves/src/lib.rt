@@ -9,7 +9,7 @@ ghost use Rattle.division.specs.declared.Choice.the-variants.{StraightRun};
 ghost use Rattle.division.specs.Division.{square, choice, blocks};
 ghost use Rattle.division.specs.Division.Inside.{Inside};
 ghost use Rattle.division.specs.Forms.{block};
-ghost use Rattle.leaves.specs.Walk.{place, enter-one, filled-with, exchanged, near, far, Fits, least-one, checked};
+ghost use Rattle.leaves.specs.Walk.{place, enter-one, filled-with, exchanged, near, far, Fits, least-one, checked, wrong-at, wrong-in};
 
 // A square's place in a table by square.
 fn place_of(along: u32, across: u32, turned: bool, w: u32) -> u32
@@ -103,6 +103,28 @@ pub fn fill_leaf(table: &mut [u32], k: Placed, area: Area, at: u32, by_square: b
     4
 }
 
+// A wrong place and the value due there.
+pub struct Wrong {
+    pub place: u32,
+    pub due: u32,
+}
+
+// Both in one word, of which the lesser has the lesser place; and out of the word again.
+pub fn wrong_word(place: u32, due: u32) -> u64
+    ensures { λ r. ⌜ r ≡ wrong-at place due ⌝ }
+{
+    place as u64 * 4294967296 + due as u64
+}
+
+pub fn wrong_in(word: u64) -> Wrong
+    ensures { λ r. ⌜ r ≡ wrong-in word ⌝ }
+{
+    Wrong {
+        place: (word / 4294967296) as u32,
+        due: (word % 4294967296) as u32,
+    }
+}
+
 // The least wrong place so far, with square number n, which has the place p, looked at.
 fn compare(table: &[u32], n: u32, p: u32, by_square: bool, least: u64) -> u64
     requires { ⌜ (n < length (now table)) × (p < length (now table)) ⌝ }
@@ -114,7 +136,7 @@ fn compare(table: &[u32], n: u32, p: u32, by_square: bool, least: u64) -> u64
     if table[i] == due {
         return least;
     }
-    let wrong = place as u64 * 4294967296 + due as u64;
+    let wrong = wrong_word(place, due);
     if wrong < least {
         return wrong;
     }

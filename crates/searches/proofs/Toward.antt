@@ -1,7 +1,7 @@
 -- One step of a search: the part that holds a square, with the square as that part has it. One law over the part, and for each cut which part it is.
 use mathlib.Core.Bool.{Bool, true, false, cond}
-use mathlib.Core.Path.{_≡_, refl, sym, ap, subst, subst⁻¹, _∙_}
-use Prim.Native.Nat.{ℕ, _+_, _-_, _*_, _/_, _≤_, _<_}
+use mathlib.Core.Path.{_≡_, refl, sym, ap, ap₂, subst, subst⁻¹, _∙_}
+use Prim.Native.Nat.{ℕ, _+_, _-_, _*_, _/_, _%_, _≤_, _<_}
 use native.Mathlib.Nat.{add-assoc, sub-self, mul-comm, mul-le-mul, le-mul-of-pos-right}
 use native.Mathlib.Omega.{arith}
 use borrow.Author.Tests.{ltb-true, ltb-false}
@@ -13,9 +13,10 @@ use Rattle.division.specs.Division.Inside.{Sized, x-y, Inside}
 use Rattle.division.specs.Forms.{entered}
 use Rattle.division.proofs.Cases.{long-lengths, u-lengths, run-length, side-length}
 use Rattle.division.proofs.Blocks.{whole-inside}
-use Rattle.division.proofs.Local.{Within, inner, Lies, in-first, in-second, in-a, in-b, in-c, squares-of, lies-smaller, lies-inside, lies-fits, area-run, area-side, area-cut}
+use Rattle.division.proofs.Once.{number-below}
+use Rattle.division.proofs.Local.{Within, whole-holds, inner, Lies, in-first, in-second, in-a, in-b, in-c, squares-of, lies-smaller, lies-inside, lies-fits, area-run, area-side, area-cut}
 use Rattle.division.proofs.Walks.{a-limit, b-limit, Sums-fit, sums-fit}
-use Rattle.searches.specs.Searches.{number-word, spot-number, spot-blocks, Lying, Leads, Searches, search-word}
+use Rattle.searches.specs.Searches.{number-word, numbered-in, numbered, spot-number, spot-blocks, Lying, Leads, Searches, search-word}
 
 sized-of : (s : Spot) {before : ℕ} → Lying s before → Sized (whole (s .a) (s .b))
 unfolding whole
@@ -151,3 +152,24 @@ module _ {s : Spot} {before above : ℕ} (r : Searches s before above) where
 
     pub next-word : search-word t on (above + 1) ≡ search-word s before above
     next-word = let n = l .holding in let m = l .number in omega arith
+
+-- what is packed into a word is what is taken out of it
+pub taken-out : (number blocks : ℕ) → number < 4294967296 → blocks < 256 → numbered-in (number-word number blocks) ≡ numbered number blocks
+taken-out number blocks l few =
+    let number-is : number-word number blocks / 256 % 4294967296 ≡ number = omega arith in
+    let blocks-is : number-word number blocks % 256 ≡ blocks = omega arith in
+    λ i. record { number = number-is i; blocks = blocks-is i }
+
+-- a search in the whole area: its number is one of 32 bits, and the word holds it
+pub word-holds : (s : Spot) → Searches s 0 0 → (word : ℕ) → word ≡ search-word s 0 0 → numbered-in word ≡ numbered (spot-number s) (spot-blocks s)
+unfolding whole
+word-holds s r word e =
+    let k = whole (s .a) (s .b) in
+    let there = whole-holds (s .a) (s .b) (square (s .u) (s .v)) (lies-in r) in
+    let sides = sized-of s (r .lying) in
+    let below = number-below (s .a) (s .b) k (whole-inside (s .a) (s .b) (sides .run) (sides .side)) (square (s .u) (s .v)) there in
+    let room = r .lying .room in
+    let few = r .count in
+    let number : 0 + spot-number s ≡ spot-number s = omega arith in
+    let blocks : 0 + spot-blocks s ≡ spot-blocks s = omega arith in
+    ap numbered-in e ∙ taken-out (0 + spot-number s) (0 + spot-blocks s) (omega arith) (omega arith) ∙ ap₂ numbered number blocks

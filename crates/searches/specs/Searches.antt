@@ -1,12 +1,20 @@
 -- What a search asks and returns, and each step of it: of a square, document 01's "A lookup goes down into the one part that holds it and skips
 -- the others by their areas." It returns a word, in which the code holds a number and a count of blocks below 256.
 use mathlib.Core.Path.{_≡_}
-use Prim.Native.Nat.{ℕ, suc, _+_, _*_, _≤_, _<_}
+use Prim.Native.Nat.{ℕ, suc, _+_, _*_, _/_, _%_, _≤_, _<_}
 use Rattle.division.specs.declared.Spot.{Spot}
+use Rattle.searches.specs.declared.Numbered.{Numbered}
 use Rattle.division.specs.Division.{square, whole, number-of, blocks-holding}
 
 abbrev pub number-word : ℕ → ℕ → ℕ
 number-word number blocks = number * 256 + blocks
+
+abbrev pub numbered-in : (word : ℕ) → Numbered
+numbered-in word = record { number = word / 256 % 4294967296; blocks = word % 256 }
+
+-- A number with a count of blocks, as the code has them outside of the word.
+abbrev pub numbered : (number blocks : ℕ) → Numbered
+numbered number blocks = record { number = number; blocks = blocks }
 
 -- The spot of a search's parameters.
 abbrev pub spot-at : (a b u v : ℕ) → Spot

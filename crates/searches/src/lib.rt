@@ -3,36 +3,51 @@ use division::Choice;
 use division::Spot;
 ghost use mathlib.Core.Path.{_≡_};
 ghost use Rattle.division.specs.declared.Choice.the-variants.{LongCut, UCut};
-ghost use Rattle.division.specs.Division.{choice};
-ghost use Rattle.searches.specs.Searches.{number-word, spot-at, Lying, Leads, Searches, search-word};
+ghost use Rattle.division.specs.Division.{square, whole, choice, number-of, blocks-holding};
+ghost use Rattle.searches.specs.Searches.{number-word, numbered, numbered-in, spot-at, Lying, Leads, Searches, search-word};
 
-// A number and a count in one word.
+// A square's number, and how many blocks of the division hold the square.
+pub struct Numbered {
+    pub number: u32,
+    pub blocks: u32,
+}
+
+// Both in one word, as a descent has it, and out of the word again.
 fn number_word(number: u32, blocks: u32) -> u64
     ensures { λ r. ⌜ r ≡ number-word number blocks ⌝ }
 {
     number as u64 * 256 + blocks as u64
 }
 
+fn numbered_in(word: u64) -> Numbered
+    ensures { λ r. ⌜ r ≡ numbered-in word ⌝ }
+{
+    Numbered {
+        number: (word / 256 % 4294967296) as u32,
+        blocks: (word % 256) as u32,
+    }
+}
+
 // A square as a part has it, and how many numbers come before that part.
-struct Ahead {
+struct Below {
     spot: Spot,
     before: u32,
 }
 
 // The square as the part of a long cut that holds it has it.
-fn long_at(s: Spot, before: u32) -> Ahead
+fn long_at(s: Spot, before: u32) -> Below
     requires { ⌜ Lying s before × (choice (s .a) (s .b) ≡ LongCut) ⌝ }
     ensures { λ r. ⌜ Leads s before (r .spot) (r .before) ⌝ }
 {
     let spot = division::in_long(s);
-    Ahead {
+    Below {
         spot: spot,
         before: before + (s.u - spot.u) * s.b,
     }
 }
 
 // The square as the part of a U cut that holds it has it.
-fn u_at(s: Spot, before: u32) -> Ahead
+fn u_at(s: Spot, before: u32) -> Below
     requires { ⌜ Lying s before × (choice (s .a) (s .b) ≡ UCut) ⌝ }
     ensures { λ r. ⌜ Leads s before (r .spot) (r .before) ⌝ }
 {
@@ -40,20 +55,20 @@ fn u_at(s: Spot, before: u32) -> Ahead
     let to_b = e * (s.a / 2);
     if e <= s.v {
         let spot = division::in_b(s);
-        return Ahead {
+        return Below {
             spot: spot,
             before: before + to_b,
         };
     }
     if s.u < s.a / 2 {
         let spot = division::in_a(s);
-        return Ahead {
+        return Below {
             spot: spot,
             before: before,
         };
     }
     let spot = division::in_c(s);
-    Ahead {
+    Below {
         spot: spot,
         before: before + to_b + s.a * (s.b - e),
     }
@@ -61,7 +76,7 @@ fn u_at(s: Spot, before: u32) -> Ahead
 
 // The number of the square at (u, v) of an a by b block, `before` numbers on, and how many blocks hold it when `above` hold the block. The call on
 // the part is the last act, so that it compiles to a loop.
-pub fn search(a: u32, b: u32, u: u32, v: u32, before: u32, above: u32) -> u64
+fn search(a: u32, b: u32, u: u32, v: u32, before: u32, above: u32) -> u64
     requires { ⌜ Searches (spot-at a b u v) before above ⌝ }
     ensures { λ r. ⌜ r ≡ search-word (spot-at a b u v) before above ⌝ }
 {
@@ -81,4 +96,13 @@ pub fn search(a: u32, b: u32, u: u32, v: u32, before: u32, above: u32) -> u64
             search(q.a, q.b, q.u, q.v, t.before, above + 1)
         }
     }
+}
+
+// The number of an area's square, and how many blocks hold the square.
+pub fn number_at(w: u32, h: u32, x: u32, y: u32) -> Numbered
+    requires { ⌜ Searches (spot-at w h x y) 0 0 ⌝ }
+    ensures { λ r. ⌜ r ≡ numbered (number-of (whole w h) (square x y)) (blocks-holding (whole w h) (square x y)) ⌝ }
+{
+    let word = search(w, h, x, y, 0, 0);
+    numbered_in(word)
 }

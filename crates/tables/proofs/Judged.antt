@@ -3,7 +3,7 @@
 use mathlib.Core.Bool.{Bool, true, false, cond}
 use mathlib.Core.List.{List, [], _∷_}
 use mathlib.Core.Path.{_≡_, refl, sym, ap, ap₂, subst, subst⁻¹, _∙_}
-use Prim.Native.Nat.{ℕ, zero, suc, _+_, _*_, _/_, _%_, _≤_, _<_}
+use Prim.Native.Nat.{ℕ, zero, suc, _+_, _*_, _≤_, _<_}
 use native.Mathlib.Nat.{add-zero, zero-add, suc-add, add-suc, le-of-suc-le-suc}
 use native.Mathlib.Omega.{arith}
 use borrow.Author.Tests.{eq-eqb, ne-eqb, eqb-true, eqb-false}
@@ -13,9 +13,10 @@ use Rattle.terms.specs.Terms.{accepted, answered}
 use Rattle.terms.proofs.Laws.{limits, squares-limit}
 use Rattle.division.specs.Division.{Block, whole}
 use Rattle.tables.specs.Tables.{judged, due-by, check}
-use Rattle.leaves.specs.Walk.{wrong-at, checked}
+use Rattle.leaves.specs.declared.Wrong.{Wrong}
+use Rattle.leaves.specs.Walk.{wrong-at, wrong-in, checked}
 use Rattle.leaves.proofs.Entries.{either-below}
-use Rattle.leaves.proofs.Checks.{over-below, over-some}
+use Rattle.leaves.proofs.Checks.{taken-out, over-below, over-some}
 use Rattle.tables.proofs.Whole.{taken}
 use Rattle.tables.proofs.Listed.{ps, ps-length, values-below, due-there, looked-for, looked-below, looked-at, due-length}
 
@@ -40,15 +41,12 @@ judged-wrong p (d ∷ ds) (v ∷ vs) e (suc l) b other same =
     (judged-wrong (suc p) ds vs (omega arith) l (le-of-suc-le-suc b) other (λ i m. same (suc i) (omega arith))
     ∙ ap (λ n. 1 ∷ n ∷ getD ds l 0 ∷ []) (suc-add p l ∙ sym (add-suc p l)))
 
-place-is : (i v : ℕ) → v < 4294967296 → wrong-at i v / 4294967296 ≡ 0 + i
-place-is i v l = omega arith
-
-value-is : (i v : ℕ) → v < 4294967296 → wrong-at i v % 4294967296 ≡ v
-value-is i v l = omega arith
+abbrev wrong-told : Wrong → List ℕ
+wrong-told r = 1 ∷ r .place ∷ r .due ∷ []
 
 -- What the least wrong place of n says, where n itself as a place means none.
 abbrev verdict : (n least : ℕ) → List ℕ
-verdict n least = cond (eqb least (wrong-at n 0)) (0 ∷ 0 ∷ 0 ∷ []) (1 ∷ (least / 4294967296) ∷ (least % 4294967296) ∷ [])
+verdict n least = cond (eqb least (wrong-at n 0)) (0 ∷ 0 ∷ 0 ∷ []) (wrong-told (wrong-in least))
 
 -- Of a table vs that should hold ds, both of n places: m is n as a place, or a wrong place, and no wrong place is less.
 module _ (ds vs : List ℕ) (n : ℕ) (long : length ds ≡ n) (size : length vs ≡ n) (small : (i : ℕ) → i < n → getD ds i 0 < 4294967296) (m : ℕ)
@@ -68,7 +66,7 @@ module _ (ds vs : List ℕ) (n : ℕ) (long : length ds ≡ n) (size : length vs
       (λ j l. same-by j (omega arith) (eqb (getD vs j 0) (getD ds j 0)) refl i l (omega arith))
       ∙ sym
       (rw (ne-eqb (wrong-at i (getD ds i 0)) (wrong-at n 0) (λ z. omega arith))
-      (λ k. 1 ∷ place-is i (getD ds i 0) value k ∷ value-is i (getD ds i 0) value k ∷ [])))
+      (ap wrong-told (taken-out i (getD ds i 0) value) ∙ ap (λ k. 1 ∷ k ∷ getD ds i 0 ∷ []) (sym (zero-add i)))))
       refl
 
 module _ (w h : ℕ) (a : 1 ≤ w) (b : 1 ≤ h) (limit : w * h < 4294967296) (kind : Bool) (t : List ℕ) (size : length t ≡ w * h) where
@@ -116,8 +114,8 @@ module _ (w h : ℕ) (a : 1 ≤ w) (b : 1 ≤ h) (limit : w * h < 4294967296) (k
   whole-checked = first-wrong due t (w * h) (due-length w h a b kind) size small least below some
 
 -- a check's answer, from the least wrong place of a walk over the whole area
-module _ (w h : ℕ) (ok : accepted w h ≡ true) (kind : Bool) (t : List ℕ) (size : length t ≡ w * h) (k : Block) (is : k ≡ whole w h) (least : ℕ)
-    (least-is : least ≡ checked kind w t k 0 (w * h * 4294967296)) where
+module _ (w h : ℕ) (ok : accepted w h ≡ true) (kind : Bool) (t : List ℕ) (size : length t ≡ w * h) (k : Block) (is : k ≡ whole w h) (none : ℕ)
+    (none-is : none ≡ wrong-at (w * h) 0) (least : ℕ) (least-is : least ≡ checked kind w t k 0 none) where
   verdict-is : answered (verdict (w * h) least) ≡ check w h (due-by kind w h) t
   unfolding check
   verdict-is =
@@ -125,10 +123,13 @@ module _ (w h : ℕ) (ok : accepted w h ≡ true) (kind : Bool) (t : List ℕ) (
       sym
       (taken w h t 3 (answered (judged 0 (due-by kind w h) t)) ok size
       ∙ ap answered (whole-checked w h (all .w-least) (all .h-least) (squares-limit w h ok) kind t size
-      ∙ ap (verdict (w * h)) (sym (least-is ∙ ap₂ (λ j none. checked kind w t j 0 none) is (sym (add-zero (w * h * 4294967296)))))))
+      ∙ ap (verdict (w * h)) (sym (least-is ∙ ap₂ (λ j none. checked kind w t j 0 none) is none-is))))
 
-  pub right-is : least ≡ w * h * 4294967296 → answered (0 ∷ 0 ∷ 0 ∷ []) ≡ check w h (due-by kind w h) t
-  right-is e = ap answered (sym (rw (eq-eqb least (wrong-at (w * h) 0) (omega arith)))) ∙ verdict-is
+  pub right-is : least ≡ none → answered (0 ∷ 0 ∷ 0 ∷ []) ≡ check w h (due-by kind w h) t
+  right-is e = ap answered (sym (rw (eq-eqb least (wrong-at (w * h) 0) (e ∙ none-is)))) ∙ verdict-is
 
-  pub wrong-is : (least ≡ w * h * 4294967296 → ⊥) → answered (1 ∷ (least / 4294967296) ∷ (least % 4294967296) ∷ []) ≡ check w h (due-by kind w h) t
-  wrong-is e = ap answered (sym (rw (ne-eqb least (wrong-at (w * h) 0) (λ z. e (omega arith))))) ∙ verdict-is
+  pub wrong-is : (least ≡ none → ⊥) → (r : Wrong) → r ≡ wrong-in least → answered (1 ∷ r .place ∷ r .due ∷ []) ≡ check w h (due-by kind w h) t
+  wrong-is e r read =
+      ap (λ r. answered (wrong-told r)) read
+      ∙ ap answered (sym (rw (ne-eqb least (wrong-at (w * h) 0) (λ z. e (z ∙ sym none-is)))))
+      ∙ verdict-is

@@ -11,8 +11,8 @@ use lib.Dec.{eqb, lit≤, lit<}
 use lib.ListN.{length, getD}
 use Rattle.division.specs.Division.Small.{blocks-two}
 use Rattle.terms.specs.declared.Refusal.the-variants.{TableLength}
-use Rattle.terms.specs.Terms.{accepted, Figures, answered, refused}
-use Rattle.terms.proofs.Laws.{limits, named, named-back, refusal-not-0, value}
+use Rattle.terms.specs.Terms.{accepted, area-refusal, Figures, answered, refused}
+use Rattle.terms.proofs.Laws.{limits, named, named-back, refusal-some, refusal-not-0, value}
 use Rattle.terms.proofs.Ones.{one-equation, by-figures}
 use Rattle.division.specs.Division.{square, whole, square-of, number-of, blocks, +x, +y}
 use Rattle.division.proofs.Blocks.{whole-inside, few-blocks}
@@ -125,7 +125,7 @@ asked-by : (w h : ℕ) (t : List ℕ) (n : ℕ) (answer : Figures) (a b : Bool) 
 asked-by w h t n answer true true p q e = (p, eqb-true (length t) (w * h) q)
 asked-by w h t n answer true false p q e =
     absurd (omega (arith, ap (λ f. f .refusal) (length-refused w h t n answer p (eqb-false (length t) (w * h) q))))
-asked-by w h t n answer false b p q e = absurd (omega (arith, ap (λ f. f .refusal) (area-refused w h t n answer p)))
+asked-by w h t n answer false b p q e = absurd (refusal-some (area-refusal w h) (ap (λ f. f .refusal) (area-refused w h t n answer p (area-refusal w h) refl) ∙ e))
 
 module _ (w h : ℕ) (t : List ℕ) where
   -- "A table's length must be exactly w·h": of an accepted area any other is refusal 4, in fills and checks.

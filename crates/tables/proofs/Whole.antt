@@ -1,17 +1,17 @@
 -- A call on the table of a whole area: its refusals, and that refusal 9 never arises.
 use mathlib.Core.Bool.{Bool, true, false}
 use mathlib.Core.List.{List, [], _∷_}
-use mathlib.Core.Path.{_≡_, refl, ap, _∙_}
+use mathlib.Core.Path.{_≡_, refl, ap, subst⁻¹, _∙_}
 use Prim.Native.Nat.{ℕ, _+_, _*_}
 use native.Mathlib.Omega.{arith}
 use borrow.Author.Tests.{eq-eqb, ne-eqb, le-ltb}
 use lib.Dec.{ltb}
 use lib.ListN.{length}
 use Rattle.terms.specs.declared.Refusal.{Refusal}
-use Rattle.terms.specs.declared.Refusal.the-variants.{AreaLimit, TableLength}
-use Rattle.terms.specs.Terms.{accepted, Figures, answered, refused}
+use Rattle.terms.specs.declared.Refusal.the-variants.{TableLength}
+use Rattle.terms.specs.Terms.{accepted, area-refusal, Figures, answered, refused}
 use Rattle.terms.proofs.Laws.{limits, refusal-some}
-use Rattle.division.specs.Division.{whole, curve, blocks-holding, count}
+use Rattle.division.specs.Division.{Block, whole, curve, blocks-holding, count}
 use Rattle.division.proofs.Blocks.{whole-inside, at-most-54}
 use Rattle.tables.specs.Tables.{some-deep, on-table, unless-refused}
 use Rattle.leaves.specs.Walk.{Fits}
@@ -33,9 +33,9 @@ not-deep w h ok =
     rw none
 
 module _ (w h : ℕ) (t : List ℕ) (n : ℕ) (answer : Figures) where
-  pub area-refused : accepted w h ≡ false → refused AreaLimit n ≡ on-table w h t n answer
+  pub area-refused : accepted w h ≡ false → (r : Refusal) → r ≡ area-refusal w h → refused r n ≡ on-table w h t n answer
   unfolding on-table
-  area-refused bad = rw bad
+  area-refused bad r is = rw bad (ap (λ r. refused r n) is)
 
   pub length-refused : accepted w h ≡ true → (length t ≡ w * h → ⊥) → refused TableLength n ≡ on-table w h t n answer
   unfolding on-table
@@ -55,8 +55,11 @@ unfolding unless-refused
 given values filled t e = rw (eq-eqb _ 0 (ap (λ g. g .refusal) e))
 
 -- the whole area is a block that a walk can take
-pub whole-fits : (w h : ℕ) (t : List ℕ) → accepted w h ≡ true → length t ≡ w * h → Fits w h t (whole w h) 0
+whole-fits : (w h : ℕ) (t : List ℕ) → accepted w h ≡ true → length t ≡ w * h → Fits w h t (whole w h) 0
 unfolding whole
 whole-fits w h t ok size =
     let all = limits w h ok in
     record { w-limit = all .w-most; h-limit = all .h-most; inside = whole-inside w h (all .w-least) (all .h-least); size = size; room = omega arith }
+
+pub block-fits : (w h : ℕ) (t : List ℕ) → accepted w h ≡ true → length t ≡ w * h → (k : Block) → k ≡ whole w h → Fits w h t k 0
+block-fits w h t ok size k is = subst⁻¹ (λ (k : Block). Fits w h t k 0) is (whole-fits w h t ok size)

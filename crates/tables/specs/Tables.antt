@@ -4,8 +4,8 @@ use mathlib.Core.List.{List, [], _∷_, _++_}
 use Prim.Native.Nat.{ℕ, zero, suc, _+_, _*_, _/_, _%_}
 use lib.Dec.{ltb, eqb}
 use lib.ListN.{length}
-use Rattle.terms.specs.declared.Refusal.the-variants.{AreaLimit, TableLength, TooDeep}
-use Rattle.terms.specs.Terms.{accepted, Figures, answered, refused}
+use Rattle.terms.specs.declared.Refusal.the-variants.{TableLength, TooDeep}
+use Rattle.terms.specs.Terms.{Figures, answered, refused, on-area}
 use Rattle.division.specs.Division.{square, whole, curve, blocks, square-of, number-of, blocks-holding, count}
 use Rattle.tables.specs.declared.FillAnswer as FillAnswers
 use Rattle.tables.specs.declared.CheckAnswer as CheckAnswers
@@ -31,7 +31,7 @@ some-deep w h = ltb 0 (count (λ s. ltb 64 (blocks-holding (whole w h) s)) (curv
 -- a table answers, where n values would be answered, and what is left of a table that it fills: "the table is unaltered".
 unfoldable pub on-table : (w h : ℕ) → List ℕ → (n : ℕ) → Figures → Figures
 on-table w h table n answer =
-    cond (accepted w h) (cond (eqb (length table) (w * h)) (cond (some-deep w h) (refused TooDeep n) answer) (refused TableLength n)) (refused AreaLimit n)
+    on-area w h n (cond (eqb (length table) (w * h)) (cond (some-deep w h) (refused TooDeep n) answer) (refused TableLength n))
 
 unfoldable pub unless-refused : Figures → (filled table : List ℕ) → List ℕ
 unless-refused answer filled table = cond (eqb (answer .refusal) 0) filled table

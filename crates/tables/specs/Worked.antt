@@ -5,7 +5,7 @@ use mathlib.Core.List.{List, [], _∷_}
 use Prim.Native.Nat.{ℕ}
 use lib.Dec.{T}
 use lib.ListN.{replicate}
-use Rattle.terms.specs.Terms.{accepted}
+use Rattle.terms.specs.Terms.{accepted, area-refusal}
 use Rattle.terms.specs.Comparing.{same-numbers, same-figures}
 use Rattle.tables.specs.Tables.{by-number, by-square, on-table, fill, check}
 
@@ -44,5 +44,5 @@ worked =
     ∷ []
 
 pub worked-right : T (all-right worked)
-unfolding worked all-right right same-figures same-numbers fill check on-table accepted
+unfolding worked all-right right same-figures same-numbers fill check on-table accepted area-refusal
 worked-right = tt

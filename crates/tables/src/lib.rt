@@ -42,7 +42,7 @@ fn fill_whole(area: Area, table: &mut [u32], by_square: bool) -> FillAnswer
     let w = area.w;
     let h = area.h;
     if !terms::accepts(area) {
-        return FillAnswer::Refused(Refusal::AreaLimit);
+        return FillAnswer::Refused(terms::area_refusal(area));
     }
     if table.len() != w as usize * h as usize {
         return FillAnswer::Refused(Refusal::TableLength);
@@ -74,19 +74,20 @@ fn check_whole(area: Area, table: &[u32], by_square: bool) -> CheckAnswer
     let w = area.w;
     let h = area.h;
     if !terms::accepts(area) {
-        return CheckAnswer::Refused(Refusal::AreaLimit);
+        return CheckAnswer::Refused(terms::area_refusal(area));
     }
     if table.len() != w as usize * h as usize {
         return CheckAnswer::Refused(Refusal::TableLength);
     }
-    let none = w as u64 * h as u64 * 4294967296;
+    let none = leaves::wrong_word(w * h, 0);
     let least = checks::check_block(table, whole_block(area), area, 0, by_square, none);
     if least == none {
         return CheckAnswer::Right;
     }
+    let wrong = leaves::wrong_in(least);
     CheckAnswer::Wrong {
-        place: (least / 4294967296) as u32,
-        due: (least % 4294967296) as u32,
+        place: wrong.place,
+        due: wrong.due,
     }
 }
 

@@ -1,15 +1,23 @@
 -- What the terms say: an accepted area's lengths and squares, and that a refusal's number names it alone and is never 0.
-use mathlib.Core.Bool.{Bool, true, false, cond, and-eq-true-iff}
+use mathlib.Core.Bool.{Bool, true, false, not, and-eq-true-iff}
+use mathlib.Core.List.{List, [], _∷_}
 use mathlib.Core.Path.{_≡_, refl, sym, ap, _∙_}
-use Prim.Native.Nat.{ℕ, _*_, _≤_, _<_}
+use Prim.Native.Nat.{ℕ, zero, suc, _*_, _≤_, _<_}
 use native.Mathlib.Nat.{mul-le-mul}
-use borrow.Author.Tests.{leb-true, ne-eqb}
+use borrow.Author.Tests.{leb-true, ne-eqb, not-true, not-false}
 use lib.Dec.{leb, eqb}
-use lib.ListN.{getD}
+use lib.ListN.{length, getD, take, drop}
 use native.Mathlib.Omega.{arith}
 use Rattle.terms.specs.declared.Refusal.{Refusal}
 use Rattle.terms.specs.declared.Refusal.the-variants.{AreaLimit, SquareOutside, NumberOutside, TableLength, NotANumber, WrongShape, NoArea, LongLine, TooDeep}
 use Rattle.terms.specs.Terms.{length-accepted, accepted, refusal-number, Figures}
+
+-- what a call learns from the test of its area
+pub is-accepted : (w h : ℕ) {told : Bool} → told ≡ accepted w h → not told ≡ false → accepted w h ≡ true
+is-accepted w h e passed = sym e ∙ not-false _ passed
+
+pub is-refused : (w h : ℕ) {told : Bool} → told ≡ accepted w h → not told ≡ true → accepted w h ≡ false
+is-refused w h e failed = sym e ∙ not-true _ failed
 
 pub record Limits (w h : ℕ) : Type 0 where
   pub w-least : 1 ≤ w
@@ -37,39 +45,40 @@ squares-limit w h e =
     let most : w * h ≤ 65535 * 65535 = mul-le-mul (all .w-most) (all .h-most) in
     omega arith
 
--- the refusal of a number
+-- the refusals by their numbers, from 1; this one law grows with them
+refusals : List Refusal
+refusals = AreaLimit ∷ SquareOutside ∷ NumberOutside ∷ TableLength ∷ NotANumber ∷ WrongShape ∷ NoArea ∷ LongLine ∷ TooDeep ∷ []
+
+numbered : ℕ → List Refusal
+numbered zero = []
+numbered (suc n) = take 1 (drop n refusals)
+
+numbered-back : (r : Refusal) → numbered (refusal-number r) ≡ r ∷ []
+unfolding numbered refusals
+numbered-back AreaLimit = refl
+numbered-back SquareOutside = refl
+numbered-back NumberOutside = refl
+numbered-back TableLength = refl
+numbered-back NotANumber = refl
+numbered-back WrongShape = refl
+numbered-back NoArea = refl
+numbered-back LongLine = refl
+numbered-back TooDeep = refl
+
+-- the refusal of a number, so that no two have one, and none has 0
 pub named : ℕ → Refusal
-named n =
-    cond (eqb n 1) AreaLimit
-    (cond (eqb n 2) SquareOutside
-    (cond (eqb n 3) NumberOutside
-    (cond (eqb n 4) TableLength (cond (eqb n 5) NotANumber (cond (eqb n 6) WrongShape (cond (eqb n 7) NoArea (cond (eqb n 8) LongLine TooDeep)))))))
+named n = getD (numbered n) 0 AreaLimit
 
 pub named-back : (r : Refusal) → named (refusal-number r) ≡ r
 unfolding named
-named-back AreaLimit = refl
-named-back SquareOutside = refl
-named-back NumberOutside = refl
-named-back TableLength = refl
-named-back NotANumber = refl
-named-back WrongShape = refl
-named-back NoArea = refl
-named-back LongLine = refl
-named-back TooDeep = refl
+named-back r = ap (λ (rs : List Refusal). getD rs 0 AreaLimit) (numbered-back r)
 
 pub refusal-one : (r s : Refusal) → refusal-number r ≡ refusal-number s → r ≡ s
 refusal-one r s e = sym (named-back r) ∙ ap named e ∙ named-back s
 
 pub refusal-some : (r : Refusal) → refusal-number r ≡ 0 → ⊥
-refusal-some AreaLimit e = omega arith
-refusal-some SquareOutside e = omega arith
-refusal-some NumberOutside e = omega arith
-refusal-some TableLength e = omega arith
-refusal-some NotANumber e = omega arith
-refusal-some WrongShape e = omega arith
-refusal-some NoArea e = omega arith
-refusal-some LongLine e = omega arith
-refusal-some TooDeep e = omega arith
+unfolding numbered
+refusal-some r e = let some : length (numbered 0) ≡ 1 = ap (λ n. length (numbered n)) (sym e) ∙ ap length (numbered-back r) in omega arith
 
 pub refusal-not-0 : (r : Refusal) → eqb (refusal-number r) 0 ≡ false
 refusal-not-0 r = ne-eqb (refusal-number r) 0 (refusal-some r)

@@ -1,6 +1,6 @@
--- The terms that every contract uses: which areas are accepted, the refusals' numbers, and an answer's figures on paper. Document 01, "What is
--- bought" and "Refusal numbers".
-use mathlib.Core.Bool.{Bool, _&&_}
+-- The terms that every contract uses: which areas are accepted, the refusals' numbers, an answer's figures on paper, and that an area is judged first.
+-- Document 01, "What is bought" and "Refusal numbers".
+use mathlib.Core.Bool.{Bool, _&&_, cond}
 use mathlib.Core.List.{List}
 use Prim.Native.Nat.{ℕ}
 use lib.Dec.{leb}
@@ -14,6 +14,10 @@ length-accepted n = leb 1 n && leb n 65535
 
 unfoldable pub accepted : (w h : ℕ) → Bool
 accepted w h = length-accepted w && length-accepted h
+
+-- The refusal that an area gets which is not accepted: "w or h is 0 or over 65,535".
+unfoldable pub area-refusal : (w h : ℕ) → Refusal
+area-refusal w h = AreaLimit
 
 -- The refusals' numbers, in the table's words.
 abbrev pub refusal-number : Refusal → ℕ
@@ -44,6 +48,13 @@ pub record Figures : Type 0 where
 abbrev pub answered : List ℕ → Figures
 answered values = record { refusal = 0; values = values }
 
--- "the number, all else 0", where n values would be answered
+-- A refusal with what it tells besides its number; and "the number, all else 0", where n values would be answered.
+abbrev pub refused-with : Refusal → List ℕ → Figures
+refused-with r values = record { refusal = refusal-number r; values = values }
+
 abbrev pub refused : Refusal → ℕ → Figures
-refused r n = record { refusal = refusal-number r; values = replicate n 0 }
+refused r n = refused-with r (replicate n 0)
+
+-- "For library calls the order is 1, then ..": the answer of a call on an area that is accepted, else the area's refusal, where n values would be answered.
+abbrev pub on-area : (w h n : ℕ) → Figures → Figures
+on-area w h n answer = cond (accepted w h) answer (refused (area-refusal w h) n)

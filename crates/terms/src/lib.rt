@@ -1,6 +1,6 @@
 // What every call shares: the area, whether it is accepted, and the refusals by name and number.
 ghost use mathlib.Core.Path.{_≡_};
-ghost use Rattle.terms.specs.Terms.{length-accepted, accepted, refusal-number};
+ghost use Rattle.terms.specs.Terms.{length-accepted, accepted, area-refusal, refusal-number};
 
 // The longest width or height.
 const LONGEST_SIDE: u32 = 65535;
@@ -42,6 +42,13 @@ pub fn accepts(area: Area) -> bool
         return is_length(area.h);
     }
     false
+}
+
+// The refusal of an area that is not accepted.
+pub fn area_refusal(area: Area) -> Refusal
+    ensures { λ r. ⌜ r ≡ area-refusal (area .w) (area .h) ⌝ }
+{
+    Refusal::AreaLimit
 }
 
 // The number of a refusal.

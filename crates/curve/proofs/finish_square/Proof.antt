@@ -1,8 +1,6 @@
--- `curve::finish_square` meets its contract.
+-- `curve::finish_square` meets its contract: an accepted area has a column w - 1.
 use borrow.Author.Needs.{needs}
-use borrow.Author.Tests.{not-true, not-false}
-use mathlib.Core.Path.{sym, _∙_}
-use Rattle.terms.proofs.Laws.{limits}
+use Rattle.terms.proofs.Laws.{is-accepted, is-refused, limits}
 use Rattle.curve.proofs.Answers.{finish-found, finish-limit}
 use Rattle.curve.proofs.finish_square.Statement.{statement}
 use Rattle.curve.proofs.finish_square.Tie as tie
@@ -10,14 +8,29 @@ use Rattle.curve.proofs.finish_square.Tie as tie
 accepts-requires : tie.Need-accepts-requires
 accepts-requires c κs = search needs
 
+area-refusal-requires : tie.Need-area-refusal-requires
+area-refusal-requires c κs = search needs
+
 returns : tie.Need-returns
-returns c = finish-limit (c .before .before .args .area .w) (c .before .before .args .area .h) (sym (c .before .accepts .ensures) ∙ not-true _ (c .if1 .taken))
+returns c =
+    let test = c .before in
+    let judged = test .before in
+    let start = judged .before in
+    let bad = is-refused _ _ (judged .accepts .ensures) (test .if1 .taken) in
+    finish-limit (start .args .area .w) (start .args .area .h) bad (c .area-refusal .result) (c .area-refusal .ensures)
 
 sub-t6 : tie.Need-sub-t6
-sub-t6 c = limits (c .before .before .args .area .w) (c .before .before .args .area .h) (sym (c .before .accepts .ensures) ∙ not-false _ (c .if1 .left)) .w-least
+sub-t6 c =
+    let judged = c .before in
+    let start = judged .before in
+    limits (start .args .area .w) (start .args .area .h) (is-accepted _ _ (judged .accepts .ensures) (c .if1 .left)) .w-least
 
 returns-2 : tie.Need-returns-2
-returns-2 c = finish-found (c .before .before .args .area .w) (c .before .before .args .area .h) (sym (c .before .accepts .ensures) ∙ not-false _ (c .if1 .left))
+returns-2 c =
+    let judged = c .before in
+    let start = judged .before in
+    finish-found (start .args .area .w) (start .args .area .h) (is-accepted _ _ (judged .accepts .ensures) (c .if1 .left))
 
 pub finish-square-spec : {M : Type 1} → statement M
-finish-square-spec = tie.close (tie.spec accepts-requires returns sub-t6 returns-2)
+finish-square-spec =
+    tie.close (tie.spec accepts-requires area-refusal-requires returns sub-t6 returns-2)

@@ -1,53 +1,78 @@
--- `curve::number_to_square` meets its contract: each refusal in its order, and the parts of the descent's word else.
+-- `curve::number_to_square` meets its contract: each refusal in its order, then what the descent found.
 use borrow.Author.Needs.{needs}
-use borrow.Author.Tests.{not-true, not-false}
-use mathlib.Core.Path.{sym, _∙_}
-use Rattle.terms.proofs.Laws.{squares-limit}
-use Rattle.curve.proofs.Answers.{descends, x-fits, square-deep, square-found, number-outside, square-limit}
+use Rattle.terms.proofs.Laws.{is-accepted, is-refused, squares-limit}
+use Rattle.curve.proofs.Answers.{descends, square-deep, square-found, number-outside, square-limit}
 use Rattle.curve.proofs.number_to_square.Statement.{statement}
 use Rattle.curve.proofs.number_to_square.Tie as tie
 
 accepts-requires : tie.Need-accepts-requires
 accepts-requires c κs = search needs
 
+area-refusal-requires : tie.Need-area-refusal-requires
+area-refusal-requires c κs = search needs
+
 returns : tie.Need-returns
-returns c = square-limit (c .before .before .args .area .w) (c .before .before .args .area .h) (sym (c .before .accepts .ensures) ∙ not-true _ (c .if1 .taken)) (c .before .before .args .number)
+returns c =
+    let test = c .before in
+    let judged = test .before in
+    let start = judged .before in
+    let bad = is-refused _ _ (judged .accepts .ensures) (test .if1 .taken) in
+    square-limit (start .args .area .w) (start .args .area .h) bad (c .area-refusal .result) (c .area-refusal .ensures) (start .args .number)
 
 mul-if2 : tie.Need-mul-if2
-mul-if2 c = record { fits = squares-limit (c .before .before .args .area .w) (c .before .before .args .area .h) (sym (c .before .accepts .ensures) ∙ not-false _ (c .if1 .left)) }
+mul-if2 c =
+    let judged = c .before in
+    let start = judged .before in
+    let ok = is-accepted _ _ (judged .accepts .ensures) (c .if1 .left) in
+    record { fits = squares-limit (start .args .area .w) (start .args .area .h) ok }
 
 returns-2 : tie.Need-returns-2
-returns-2 c = number-outside (c .before .before .before .args .area .w) (c .before .before .before .args .area .h) (sym (c .before .before .accepts .ensures) ∙ not-false _ (c .before .if1 .left)) (c .before .before .before .args .number) (c .if2 .taken)
+returns-2 c =
+    let first = c .before in
+    let judged = first .before in
+    let start = judged .before in
+    let ok = is-accepted _ _ (judged .accepts .ensures) (first .if1 .left) in
+    number-outside (start .args .area .w) (start .args .area .h) ok (start .args .number) (c .if2 .taken)
 
-descend-requires : tie.Need-descend-requires
-descend-requires c κs = descends (c .before .before .before .args .area .w) (c .before .before .before .args .area .h) (sym (c .before .before .accepts .ensures) ∙ not-false _ (c .before .if1 .left)) (c .before .before .before .args .number) (c .if2 .left)
-
-cast-blocks : tie.Need-cast-blocks
-cast-blocks c = search needs
+square-at-requires : tie.Need-square-at-requires
+square-at-requires c κs =
+    let first = c .before in
+    let judged = first .before in
+    let start = judged .before in
+    let ok = is-accepted _ _ (judged .accepts .ensures) (first .if1 .left) in
+    descends (start .args .area .w) (start .args .area .h) ok (start .args .number) (c .if2 .left)
 
 returns-3 : tie.Need-returns-3
-returns-3 c = square-deep (c .before .before .before .before .before .args .area .w) (c .before .before .before .before .before .args .area .h) (sym (c .before .before .before .before .accepts .ensures) ∙ not-false _ (c .before .before .before .if1 .left)) (c .before .before .before .before .before .args .number) (c .before .before .if2 .left) (c .before .descend .result) (c .before .descend .ensures) (c .if3 .taken)
-
-cast-t10 : tie.Need-cast-t10
-cast-t10 c = record { fits = x-fits (c .before .before .before .before .before .args .area .w) (c .before .before .before .before .before .args .area .h) (sym (c .before .before .before .before .accepts .ensures) ∙ not-false _ (c .before .before .before .if1 .left)) (c .before .before .before .before .before .args .number) (c .before .before .if2 .left) (c .before .descend .result) (c .before .descend .ensures) }
-
-cast-t16 : tie.Need-cast-t16
-cast-t16 c = search needs
+returns-3 c =
+    let found = c .before .before in
+    let second = found .before in
+    let first = second .before in
+    let judged = first .before in
+    let start = judged .before in
+    let ok = is-accepted _ _ (judged .accepts .ensures) (first .if1 .left) in
+    square-deep (start .args .area .w) (start .args .area .h) ok (start .args .number) (second .if2 .left) (found .square-at .result)
+    (found .square-at .ensures) (c .if3 .taken)
 
 returns-4 : tie.Need-returns-4
-returns-4 c = square-found (c .before .before .before .before .before .args .area .w) (c .before .before .before .before .before .args .area .h) (sym (c .before .before .before .before .accepts .ensures) ∙ not-false _ (c .before .before .before .if1 .left)) (c .before .before .before .before .before .args .number) (c .before .before .if2 .left) (c .before .descend .result) (c .before .descend .ensures) (c .if3 .left)
+returns-4 c =
+    let found = c .before .before in
+    let second = found .before in
+    let first = second .before in
+    let judged = first .before in
+    let start = judged .before in
+    let ok = is-accepted _ _ (judged .accepts .ensures) (first .if1 .left) in
+    square-found (start .args .area .w) (start .args .area .h) ok (start .args .number) (second .if2 .left) (found .square-at .result)
+    (found .square-at .ensures) (c .if3 .left)
 
 pub number-to-square-spec : {M : Type 1} → statement M
 number-to-square-spec =
     tie.close
     (tie.spec
     accepts-requires
+    area-refusal-requires
     returns
     mul-if2
     returns-2
-    descend-requires
-    cast-blocks
+    square-at-requires
     returns-3
-    cast-t10
-    cast-t16
     returns-4)

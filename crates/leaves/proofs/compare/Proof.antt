@@ -22,28 +22,46 @@ mul-if1 : tie.Need-mul-if1
 mul-if1 c = search needs
 
 shared-slice-read-if1 : tie.Need-shared-slice-read-if1
-shared-slice-read-if1 c = subst⁻¹ (λ (i : ℕ). i < length (c .before .before .before .before .args .table .now)) (c .before .before .either .ensures) (either-below (c .before .before .before .before .args .n) (c .before .before .before .before .args .p) (length (c .before .before .before .before .args .table .now)) (c .before .before .before .before .args .by-square) (c .before .before .before .before .pre .0) (c .before .before .before .before .pre .1))
+shared-slice-read-if1 c =
+    let place = c .before .before in
+    let start = place .before .before in
+    let asked = start .args in
+    let size = length (asked .table .now) in
+    subst⁻¹ (λ (i : ℕ). i < size) (place .either .ensures) (either-below (asked .n) (asked .p) size (asked .by-square) (start .pre .0) (start .pre .1))
 
 returns : tie.Need-returns
-returns c = right-one (c .before .before .before .before .before .args .by-square) (c .before .before .before .before .before .args .table .now) (c .before .before .before .before .before .args .least) (c .before .before .before .before .before .args .n) (c .before .before .before .before .before .args .p) (c .before .before .before .either .result) (c .before .before .either2 .result) (c .before .before .before .either .ensures) (c .before .before .either2 .ensures) (c .if1 .taken)
+returns c =
+    let due = c .before .before in
+    let place = due .before in
+    let start = place .before .before in
+    let asked = start .args in
+    right-one (asked .by-square) (asked .table .now) (asked .least) (asked .n) (asked .p) (place .either .result) (due .either2 .result)
+    (place .either .ensures) (due .either2 .ensures) (c .if1 .taken)
 
-cast-wrong : tie.Need-cast-wrong
-cast-wrong c = search needs
-
-mul-wrong : tie.Need-mul-wrong
-mul-wrong c = search needs
-
-cast-wrong-2 : tie.Need-cast-wrong-2
-cast-wrong-2 c = search needs
-
-add-wrong : tie.Need-add-wrong
-add-wrong c = search needs
+wrong-word-requires : tie.Need-wrong-word-requires
+wrong-word-requires c κs = search needs
 
 returns-2 : tie.Need-returns-2
-returns-2 c = lower-one (c .before .before .before .before .before .before .args .by-square) (c .before .before .before .before .before .before .args .table .now) (c .before .before .before .before .before .before .args .least) (c .before .before .before .before .before .before .args .n) (c .before .before .before .before .before .before .args .p) (c .before .before .before .before .either .result) (c .before .before .before .either2 .result) (c .before .before .before .before .either .ensures) (c .before .before .before .either2 .ensures) (c .before .if1 .left) (c .if2 .taken)
+returns-2 c =
+    let word = c .before in
+    let looked = word .before in
+    let due = looked .before .before in
+    let place = due .before in
+    let start = place .before .before in
+    let asked = start .args in
+    lower-one (asked .by-square) (asked .table .now) (asked .least) (asked .n) (asked .p) (place .either .result) (due .either2 .result)
+    (place .either .ensures) (due .either2 .ensures) (looked .if1 .left) (word .wrong-word .result) (word .wrong-word .ensures) (c .if2 .taken)
 
 returns-3 : tie.Need-returns-3
-returns-3 c = higher-one (c .before .before .before .before .before .before .args .by-square) (c .before .before .before .before .before .before .args .table .now) (c .before .before .before .before .before .before .args .least) (c .before .before .before .before .before .before .args .n) (c .before .before .before .before .before .before .args .p) (c .before .before .before .before .either .result) (c .before .before .before .either2 .result) (c .before .before .before .before .either .ensures) (c .before .before .before .either2 .ensures) (c .before .if1 .left) (c .if2 .left)
+returns-3 c =
+    let word = c .before in
+    let looked = word .before in
+    let due = looked .before .before in
+    let place = due .before in
+    let start = place .before .before in
+    let asked = start .args in
+    higher-one (asked .by-square) (asked .table .now) (asked .least) (asked .n) (asked .p) (place .either .result) (due .either2 .result)
+    (place .either .ensures) (due .either2 .ensures) (looked .if1 .left) (word .wrong-word .result) (word .wrong-word .ensures) (c .if2 .left)
 
 pub compare-spec : {M : Type 1} → statement M
 compare-spec =
@@ -55,9 +73,6 @@ compare-spec =
     mul-if1
     shared-slice-read-if1
     returns
-    cast-wrong
-    mul-wrong
-    cast-wrong-2
-    add-wrong
+    wrong-word-requires
     returns-2
     returns-3)
