@@ -7,7 +7,7 @@
  * What a call returns: 0, or the number of a refusal (UVALINDA_AREA_LIMIT and so on), or UVALINDA_SHORT_RESULT.
  *
  * What a call writes: its values go to the first places of `result` (of `blocks`, for a fill), in the order given with each call. At a refusal
- * each of them is 0 (but for the area in force, see uvalinda_handle_line), and a table is left as it was. Places after the values are never
+ * each of them is 0, except those that the call says it tells beside a refusal, and a table is left as it was. Places after the values are never
  * written. Where there are fewer places than values, the call writes nothing, fills nothing and returns UVALINDA_SHORT_RESULT, whatever else
  * there is to refuse.
  *

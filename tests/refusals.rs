@@ -1,0 +1,57 @@
+// refusals: the refusals have the same names and numbers everywhere. The list is the definition's, `refusal-number` in crates/terms/specs/Terms.antt; the
+// C header, the Rust bindings and the page of rules are held to it, none more and none less.
+
+type Refusals = Vec<(String, String)>;
+
+fn lines(path: &str) -> Vec<String> {
+    std::fs::read_to_string(path).expect(path).lines().map(|line| line.trim().to_string()).collect()
+}
+
+// AreaLimit as C has it: AREA_LIMIT.
+fn in_c(name: &str) -> String {
+    let mut all = String::new();
+    for (i, letter) in name.char_indices() {
+        if i > 0 && letter.is_uppercase() {
+            all.push('_');
+        }
+        all.extend(letter.to_uppercase());
+    }
+    all
+}
+
+// The names and numbers that `read` finds in a file's lines.
+fn found(path: &str, read: impl Fn(&str) -> Option<(String, String)>) -> Refusals {
+    lines(path).iter().filter_map(|line| read(line)).collect()
+}
+
+fn owned(name: &str, number: &str) -> Option<(String, String)> {
+    number.parse::<u32>().ok().map(|_| (name.to_string(), number.to_string()))
+}
+
+fn main() {
+    let defined = found("crates/terms/specs/Terms.antt", |line| {
+        let (name, number) = line.strip_prefix("refusal-number ")?.split_once(" = ")?;
+        owned(name, number)
+    });
+    assert!(defined.len() > 1, "no refusal is defined");
+    let header = found("include/uvalinda.h", |line| {
+        let mut words = line.strip_prefix("#define UVALINDA_")?.split_whitespace();
+        let (name, number) = (words.next()?, words.next()?.strip_suffix('u')?);
+        let refusal = !name.ends_with("_PLACES") && !name.starts_with("REPLY_") && name != "ANSWERED" && name != "SHORT_RESULT";
+        owned(name, number).filter(|_| refusal)
+    });
+    let bindings = found("bindings/rust/src/refusal.rs", |line| {
+        let (number, name) = line.split_once(':')?.0.split_once(' ')?;
+        owned(name, number)
+    });
+    let rules = found("docs/RULES.md", |line| {
+        let mut cells = line.strip_prefix("| ")?.split(" | ");
+        let (number, name) = (cells.next()?, cells.next()?);
+        owned(name.strip_prefix('`')?.strip_suffix('`')?, number)
+    });
+    let c: Refusals = defined.iter().map(|(name, number)| (in_c(name), number.clone())).collect();
+    assert_eq!(c, header, "the C header has other refusals than the definition");
+    assert_eq!(defined, bindings, "the Rust bindings have other refusals than the definition");
+    assert_eq!(defined, rules, "docs/RULES.md has other refusals than the definition");
+    println!("refusals: {} names and numbers, the same in definition, header, bindings and rules", defined.len());
+}
