@@ -8,10 +8,14 @@ use Rattle.words.proofs.begins_with.Statement.{statement}
 use Rattle.words.proofs.begins_with.Tie as tie
 
 returns : tie.Need-returns
-returns c = too-short (c .before .before .before .args .line .now) (c .before .before .before .args .word .now) (c .if1 .taken)
+returns c =
+    let start = c .before .before .before in
+    too-short (start .args .line .now) (start .args .word .now) (c .if1 .taken)
 
 slice-aggregate-is-word : tie.Need-slice-aggregate-is-word
-slice-aggregate-is-word c = sym (length-take-le (length (c .before .before .before .before .args .word .now)) (c .before .before .before .before .args .line .now) (c .before .if1 .left))
+slice-aggregate-is-word c =
+    let start = c .before .before .before .before in
+    sym (length-take-le (length (start .args .word .now)) (start .args .line .now) (c .before .if1 .left))
 
 is-word-requires : tie.Need-is-word-requires
 is-word-requires c κs = search needs

@@ -24,16 +24,29 @@ returns : tie.Need-returns Inv-loop μ-loop
 returns c = due-low _ _ _ (c .before .before .loop-test .taken) (c .if1 .taken) ∙ c .before .before .before .loop .inv .2
 
 returns-2 : tie.Need-returns-2 Inv-loop μ-loop
-returns-2 c = due-high _ _ _ (c .before .before .before .loop-test .taken) (c .before .if1 .left) (c .if2 .taken) ∙ c .before .before .before .before .loop .inv .2
+returns-2 c =
+    let test = c .before .before .before in
+    due-high _ _ _ (test .loop-test .taken) (c .before .if1 .left) (c .if2 .taken) ∙ test .before .loop .inv .2
 
 mul-v : tie.Need-mul-v Inv-loop μ-loop
-mul-v c = record { fits = let few = ten-digits _ _ (c .before .before .before .before .loop .inv .1) (let l = c .before .before .before .loop-test .taken in let most = c .before .before .before .before .before .pre in omega arith) in omega arith }
+mul-v c =
+    let test = c .before .before .before in
+    let turn = test .before in
+    let start = turn .before in
+    record { fits = let few = ten-digits _ _ (turn .loop .inv .1) (let l = test .loop-test .taken in let most = start .pre in omega arith) in omega arith }
 
 cast-v : tie.Need-cast-v Inv-loop μ-loop
 cast-v c = record { fits = let high = c .if2 .left in omega arith }
 
 add-v : tie.Need-add-v Inv-loop μ-loop
-add-v c = record { fits = let few = ten-digits _ _ (c .before .before .before .before .loop .inv .1) (let l = c .before .before .before .loop-test .taken in let most = c .before .before .before .before .before .pre in omega arith) in let high = c .if2 .left in omega arith }
+add-v c =
+    let test = c .before .before .before in
+    let turn = test .before in
+    let start = turn .before in
+    record {
+      fits = let few = ten-digits _ _ (turn .loop .inv .1) (let l = test .loop-test .taken in let most = start .pre in omega arith) in
+          let high = c .if2 .left in omega arith;
+    }
 
 add-i : tie.Need-add-i Inv-loop μ-loop
 add-i c = record { fits = let l = c .before .before .before .loop-test .taken in omega arith }
@@ -43,13 +56,19 @@ loop-less c = let l = c .before .before .before .loop-test .taken in omega arith
 
 loop-again : tie.Need-loop-again Inv-loop μ-loop
 loop-again c =
-    let l = c .before .before .before .loop-test .taken in
+    let test = c .before .before .before in
+    let turn = test .before in
+    let l = test .loop-test .taken in
     let low = c .before .if1 .left in
     let high = c .if2 .left in
-    (omega arith, below-ten _ _ _ (c .before .before .before .before .loop .inv .1) (omega arith), due-on _ _ _ l low high ∙ c .before .before .before .before .loop .inv .2)
+    (omega arith, below-ten _ _ _ (turn .loop .inv .1) (omega arith), due-on _ _ _ l low high ∙ turn .loop .inv .2)
 
 returns-3 : tie.Need-returns-3 Inv-loop μ-loop
-returns-3 c = due-end (c .before .before .args .s .now) (c .before .loop .i) (c .before .loop .v) (let most = c .before .loop .inv .0 in let last = c .loop-test .left in omega arith) ∙ c .before .loop .inv .2
+returns-3 c =
+    let turn = c .before in
+    let start = turn .before in
+    due-end (start .args .s .now) (turn .loop .i) (turn .loop .v) (let most = turn .loop .inv .0 in let last = c .loop-test .left in omega arith)
+    ∙ turn .loop .inv .2
 
 pub digits-value-spec : {M : Type 1} → statement M
 digits-value-spec =

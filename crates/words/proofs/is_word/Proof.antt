@@ -49,11 +49,12 @@ loop-again c =
 
 returns-3 : tie.Need-returns-3 Inv-loop μ-loop
 returns-3 c =
+    let start = c .before .before .before in
     let at = c .before .loop in
     let most = at .inv .1 in
     let last = c .loop-test .left in
     let same = at .inv .0 in
-    sym (at .inv .2 ∙ same-end (c .before .before .before .args .s .now) (c .before .before .before .args .word .now) (at .i) (omega arith) (omega arith))
+    sym (at .inv .2 ∙ same-end (start .args .s .now) (start .args .word .now) (at .i) (omega arith) (omega arith))
 
 pub is-word-spec : {M : Type 1} → statement M
 is-word-spec =

@@ -27,7 +27,12 @@ cast-t6 : tie.Need-cast-t6
 cast-t6 c = record { fits = let few = c .if3 .left in omega arith }
 
 returns-4 : tie.Need-returns-4
-returns-4 c = ap numeral-figures (a-number _ _ (c .before .digits-value .ensures) (sym (c .before .before .before .before .begins-well .ensures) ∙ not-false _ (c .before .before .before .if1 .left)) (c .before .before .if2 .left) (c .if3 .left))
+returns-4 c =
+    let second-test = c .before .before in
+    let first-test = second-test .before in
+    ap numeral-figures
+    (a-number _ _ (c .before .digits-value .ensures) (sym (first-test .before .begins-well .ensures) ∙ not-false _ (first-test .if1 .left))
+    (second-test .if2 .left) (c .if3 .left))
 
 pub number-spec : {M : Type 1} → statement M
 number-spec =
