@@ -30,7 +30,9 @@ enter-length by-square t n [] = refl
 enter-length by-square t n (p ∷ ps) = enter-length by-square (enter-one by-square t n p) (suc n) ps ∙ length-set t (cond by-square p n) (cond by-square n p)
 
 -- two lists in a row are the lists joined
-pub over-append : {S : Type 0} (step : S → ℕ → ℕ → S) (state : S) (n : ℕ) (ps qs : List ℕ) → over step state n (ps ++ qs) ≡ over step (over step state n ps) (n + length ps) qs
+pub over-append :
+    {S : Type 0} (step : S → ℕ → ℕ → S) (state : S) (n : ℕ) (ps qs : List ℕ) →
+    over step state n (ps ++ qs) ≡ over step (over step state n ps) (n + length ps) qs
 unfolding over
 over-append step state n [] qs = ap (λ m. over step state m qs) (sym (add-zero n))
 over-append step state n (p ∷ ps) qs =

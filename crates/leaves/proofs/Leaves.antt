@@ -21,7 +21,8 @@ use Rattle.leaves.proofs.Entries.{place-below, squares-fit}
 abbrev twice : {S : Type 0} → (S → ℕ → ℕ → S) → S → (n p q : ℕ) → S
 twice step state n p q = step (step state n p) (n + 1) q
 
-over-two : {S : Type 0} (step : S → ℕ → ℕ → S) (state : S) (n p q : ℕ) (ps : List ℕ) → over step state n (p ∷ q ∷ ps) ≡ over step (twice step state n p q) (n + 2) ps
+over-two :
+    {S : Type 0} (step : S → ℕ → ℕ → S) (state : S) (n p q : ℕ) (ps : List ℕ) → over step state n (p ∷ q ∷ ps) ≡ over step (twice step state n p q) (n + 2) ps
 unfolding over
 over-two step state n p q ps = simp (add-one, add-two) refl
 
@@ -54,10 +55,12 @@ module _ {w h : ℕ} {k : Block} (i : Inside w h k) (ea : k .a ≡ 2) where
   squares-three eb = up-and-down 3 eb _ three-deep ∙ (λ j. near-spot 0 j ∷ near-spot 1 j ∷ near-spot 2 j ∷ far k 2 ∷ far k 1 ∷ far k 0 ∷ [])
 
   pub count-two-deep : k .b ≡ 2 → 4 ≡ length (blocks k)
-  count-two-deep eb = blocks-two (k .start) (k .run) (k .side) ∙ (λ j. length (blocks (record { start = k .start; run = k .run; a = sym ea j; side = k .side; b = sym eb j })))
+  count-two-deep eb = blocks-two (k .start) (k .run) (k .side)
+      ∙ (λ j. length (blocks (record { start = k .start; run = k .run; a = sym ea j; side = k .side; b = sym eb j })))
 
   pub count-three-deep : k .b ≡ 3 → 4 ≡ length (blocks k)
-  count-three-deep eb = blocks-three (k .start) (k .run) (k .side) ∙ (λ j. length (blocks (record { start = k .start; run = k .run; a = sym ea j; side = k .side; b = sym eb j })))
+  count-three-deep eb = blocks-three (k .start) (k .run) (k .side)
+      ∙ (λ j. length (blocks (record { start = k .start; run = k .run; a = sym ea j; side = k .side; b = sym eb j })))
 
   -- steps on the squares two by two, as the code takes them, and the walk over the block
   module _ {S : Type 0} (step : S → ℕ → ℕ → S) (state : S) (at : ℕ) {p₀ p₁ q₀ q₁ : ℕ} (near₀ : p₀ ≡ place w (near k 0)) (near₁ : p₁ ≡ place w (near k 1))
@@ -84,7 +87,8 @@ module _ {w h : ℕ} {k : Block} (i : Inside w h k) (ea : k .a ≡ 2) where
         three
         ∙ (λ j. twice step (two j) (at + 4) (far₁ j) (far₀ j))
         ∙ (λ j. twice step (twice step (one j) (at + 2) (near₂ j) (far₂ j)) (at + 4) (place w (far k 1)) (place w (far k 0)))
-        ∙ (λ j. twice step (twice step (twice step state at (near₀ j) (near₁ j)) (at + 2) (place w (near k 2)) (place w (far k 2))) (at + 4) (place w (far k 1)) (place w (far k 0)))
+        ∙ (λ j. twice step (twice step (twice step state at (near₀ j) (near₁ j)) (at + 2) (place w (near k 2)) (place w (far k 2))) (at + 4) (place w (far k 1))
+        (place w (far k 0)))
         ∙ sym
         (ap (λ ss. over step state at (map (place w) ss)) (squares-three eb)
         ∙ over-two step state at (place w (near k 0)) (place w (near k 1)) (place w (near k 2) ∷ place w (far k 2) ∷ down)

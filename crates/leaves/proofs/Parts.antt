@@ -22,7 +22,8 @@ use Rattle.leaves.specs.Walk.{place, over, over-block, exchanged, Fits}
 use Rattle.leaves.proofs.Entries.{over-append}
 
 -- one call on a part: its measure is less, and it has its room
-module _ {w h : ℕ} {t : List ℕ} {k : Block} {at : ℕ} (f : Fits w h t k at) (before : List Block) (q : Block) (after : List Block) (e : parts k ≡ before ++ (q ∷ after)) where
+module _ {w h : ℕ} {t : List ℕ} {k : Block} {at : ℕ} (f : Fits w h t k at) (before : List Block) (q : Block) (after : List Block)
+    (e : parts k ≡ before ++ (q ∷ after)) where
   call : (t′ : List ℕ) → length t′ ≡ length t → (on : ℕ) → on ≡ at + total area before → (r : Placed) → block r ≡ q
       → (3 * (r .a * r .b) + 2 < 3 * (k .a * k .b)) × Fits w h t′ (block r) on
   call t′ same on is r there =
@@ -164,7 +165,8 @@ module _ {w h : ℕ} {t : List ℕ} {k : Block} {at : ℕ} (f : Fits w h t k at)
   side-call r there =
       subst⁻¹ (λ (j : Block). Fits w h t j at × (choice (j .a) (j .b) ≡ StraightRun)) there (exchanged-fits, exchanged-case)
 
-  pub side-over : {S : Type 0} (step : S → ℕ → ℕ → S) (state : S) (r : Placed) → block r ≡ exchanged k → over-block step state w (block r) at ≡ over-block step state w k at
+  pub side-over : {S : Type 0} (step : S → ℕ → ℕ → S) (state : S) (r : Placed) → block r ≡ exchanged k →
+      over-block step state w (block r) at ≡ over-block step state w k at
   unfolding exchanged
   side-over step state r there =
       ap (λ zs. over step state at (map (place w) zs))

@@ -16,7 +16,10 @@ compare-requires-2 : tie.Need-compare-requires-2
 compare-requires-2 c κs = search needs
 
 returns : tie.Need-returns
-returns c = c .compare2 .ensures ∙ ap (λ l. least-one (c .before .before .before .args .by-square) (c .before .before .before .args .table .now) l (c .before .before .before .args .n + 1) (c .before .before .before .args .q)) (c .before .compare .ensures)
+returns c =
+    let start = c .before .before .before in
+    c .compare2 .ensures
+    ∙ ap (λ l. least-one (start .args .by-square) (start .args .table .now) l (start .args .n + 1) (start .args .q)) (c .before .compare .ensures)
 
 pub compare-two-spec : {M : Type 1} → statement M
 compare-two-spec = tie.close (tie.spec add-compare compare-requires compare-requires-2 returns)

@@ -20,7 +20,11 @@ mul-table : tie.Need-mul-table
 mul-table c = search needs
 
 slice-write-table : tie.Need-slice-write-table
-slice-write-table c = subst⁻¹ (λ (i : ℕ). i < length (c .before .before .before .args .table .now)) (c .before .either .ensures) (either-below (c .before .before .before .args .n) (c .before .before .before .args .p) (length (c .before .before .before .args .table .now)) (c .before .before .before .args .by-square) (c .before .before .before .pre .0) (c .before .before .before .pre .1))
+slice-write-table c =
+    let start = c .before .before .before in
+    let table = start .args .table .now in
+    subst⁻¹ (λ (i : ℕ). i < length table) (c .before .either .ensures)
+    (either-below (start .args .n) (start .args .p) (length table) (start .args .by-square) (start .pre .0) (start .pre .1))
 
 same-length : tie.Need-same-length
 same-length c = search needs

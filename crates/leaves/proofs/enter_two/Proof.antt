@@ -19,7 +19,11 @@ same-length : tie.Need-same-length
 same-length c = search needs
 
 returns : tie.Need-returns
-returns c = c .before .before .enter2 .ensures ∙ ap (λ t. enter-one (c .before .before .before .before .before .before .before .before .before .args .by-square) t (c .before .before .before .before .before .before .before .before .before .args .n + 1) (c .before .before .before .before .before .before .before .before .before .args .q)) (c .before .before .before .before .before .before .enter .ensures)
+returns c =
+    let enter2 = c .before .before in
+    let enter = enter2 .before .before .before .before in
+    let start = enter .before .before .before in
+    enter2 .enter2 .ensures ∙ ap (λ t. enter-one (start .args .by-square) t (start .args .n + 1) (start .args .q)) (enter .enter .ensures)
 
 pub enter-two-spec : {M : Type 1} → statement M
 enter-two-spec = tie.close (tie.spec enter-requires add-enter enter-requires-2 same-length returns)

@@ -15,7 +15,9 @@ exchanged-by along across a b true back = refl
 exchanged-by along across a b false back = refl
 
 returns : tie.Need-returns
-returns c = exchanged-by (c .before .args .k .along) (c .before .args .k .across) (c .before .args .k .a) (c .before .args .k .b) (c .before .args .k .turned) (c .before .args .k .back)
+returns c =
+    let k = c .before .args .k in
+    exchanged-by (k .along) (k .across) (k .a) (k .b) (k .turned) (k .back)
 
 pub exchanged-block-spec : {M : Type 1} → statement M
 exchanged-block-spec = tie.close (tie.spec returns)

@@ -15,7 +15,8 @@ use Rattle.leaves.proofs.fill_run.Statement.{statement}
 use Rattle.leaves.proofs.fill_run.Tie as tie
 
 abbrev Inv-loop : tie.InvT-loop
-Inv-loop table₀ k at by-square w i₀ i-end table i = (i ≤ i-end) × (table ≡ over (enter-one by-square) table₀ at (map (place w) (row (block k .run) i (block k .start))))
+Inv-loop table₀ k at by-square w i₀ i-end table i =
+    (i ≤ i-end) × (table ≡ over (enter-one by-square) table₀ at (map (place w) (row (block k .run) i (block k .start))))
 
 abbrev μ-loop : tie.MeasureT-loop
 μ-loop table₀ k at by-square w i₀ i-end table i = i-end - i
@@ -25,27 +26,51 @@ unfolding over row
 loop-holds c = (omega arith, refl)
 
 stepped-requires : tie.Need-stepped-requires Inv-loop μ-loop
-stepped-requires c κs = steps-along (c .before .before .before .args .k) (largest (c .before .before .before .pre .0)) (c .before .loop .i) (c .loop-test .taken)
+stepped-requires c κs =
+    let start = c .before .before .before in
+    steps-along (start .args .k) (largest (start .pre .0)) (c .before .loop .i) (c .loop-test .taken)
 
 place-of-requires : tie.Need-place-of-requires Inv-loop μ-loop
 place-of-requires c κs =
-    let there = run-place (c .before .before .before .before .args .k) (c .before .before .before .before .pre .0) (c .before .before .before .before .pre .1) (c .before .before .loop .i) (c .before .loop-test .taken) (c .stepped .result) (c .stepped .ensures) in
-    let below = run-below (c .before .before .before .before .args .k) (c .before .before .before .before .pre .0) (c .before .before .before .before .pre .1) (c .before .before .loop .i) (c .before .loop-test .taken) in
-    let all = squares-fit (c .before .before .before .before .pre .0) in
+    let turn = c .before .before in
+    let start = turn .before .before in
+    let room = start .pre .0 in
+    let straight = start .pre .1 in
+    let k = start .args .k in
+    let i = turn .loop .i in
+    let there = run-place k room straight i (c .before .loop-test .taken) (c .stepped .result) (c .stepped .ensures) in
+    let below = run-below k room straight i (c .before .loop-test .taken) in
+    let all = squares-fit room in
     omega arith
 
 add-enter : tie.Need-add-enter Inv-loop μ-loop
 add-enter c =
-    let below = run-number (c .before .before .before .before .before .before .args .k) (c .before .before .before .before .before .before .pre .0) (c .before .before .before .before .before .before .pre .1) (c .before .before .before .before .loop .i) (c .before .before .before .loop-test .taken) in
-    let all = squares-fit (c .before .before .before .before .before .before .pre .0) in
+    let test = c .before .before .before in
+    let turn = test .before in
+    let start = turn .before .before in
+    let room = start .pre .0 in
+    let below = run-number (start .args .k) room (start .pre .1) (turn .loop .i) (test .loop-test .taken) in
+    let all = squares-fit room in
     record { fits = omega arith }
 
 enter-requires : tie.Need-enter-requires Inv-loop μ-loop
 enter-requires c κs =
-    let size = ap length (c .before .before .before .before .loop .inv .1) ∙ enter-length (c .before .before .before .before .before .before .args .by-square) (c .before .before .before .before .before .before .args .table .now) (c .before .before .before .before .before .before .args .at) (map (place (c .before .before .before .before .before .before .args .area .w)) (row (block (c .before .before .before .before .before .before .args .k) .run) (c .before .before .before .before .loop .i) (block (c .before .before .before .before .before .before .args .k) .start))) ∙ c .before .before .before .before .before .before .pre .0 .size in
-    let number = run-number (c .before .before .before .before .before .before .args .k) (c .before .before .before .before .before .before .pre .0) (c .before .before .before .before .before .before .pre .1) (c .before .before .before .before .loop .i) (c .before .before .before .loop-test .taken) in
-    let there = c .before .place-of .ensures ∙ run-place (c .before .before .before .before .before .before .args .k) (c .before .before .before .before .before .before .pre .0) (c .before .before .before .before .before .before .pre .1) (c .before .before .before .before .loop .i) (c .before .before .before .loop-test .taken) (c .before .before .stepped .result) (c .before .before .stepped .ensures) in
-    let below = run-below (c .before .before .before .before .before .before .args .k) (c .before .before .before .before .before .before .pre .0) (c .before .before .before .before .before .before .pre .1) (c .before .before .before .before .loop .i) (c .before .before .before .loop-test .taken) in
+    let stepped = c .before .before in
+    let test = stepped .before in
+    let turn = test .before in
+    let start = turn .before .before in
+    let room = start .pre .0 in
+    let straight = start .pre .1 in
+    let k = start .args .k in
+    let i = turn .loop .i in
+    let size =
+    ap length (turn .loop .inv .1)
+    ∙ enter-length (start .args .by-square) (start .args .table .now) (start .args .at)
+    (map (place (start .args .area .w)) (row (block k .run) i (block k .start)))
+    ∙ room .size in
+    let number = run-number k room straight i (test .loop-test .taken) in
+    let there = c .before .place-of .ensures ∙ run-place k room straight i (test .loop-test .taken) (stepped .stepped .result) (stepped .stepped .ensures) in
+    let below = run-below k room straight i (test .loop-test .taken) in
     (omega arith, omega arith)
 
 add-i : tie.Need-add-i Inv-loop μ-loop
@@ -56,27 +81,50 @@ loop-less c = search needs
 
 loop-again : tie.Need-loop-again Inv-loop μ-loop
 loop-again c =
-    let k = c .before .before .before .before .before .before .before .before .before .args .k in
-    let i = c .before .before .before .before .before .before .before .loop .i in
-    let there = c .before .before .before .before .place-of .ensures ∙ run-place (c .before .before .before .before .before .before .before .before .before .args .k) (c .before .before .before .before .before .before .before .before .before .pre .0) (c .before .before .before .before .before .before .before .before .before .pre .1) i (c .before .before .before .before .before .before .loop-test .taken) (c .before .before .before .before .before .stepped .result) (c .before .before .before .before .before .stepped .ensures) in (
+    let enter = c .before .before in
+    let place-of = enter .before .before in
+    let stepped = place-of .before in
+    let test = stepped .before in
+    let turn = test .before in
+    let start = turn .before .before in
+    let by-square = start .args .by-square in
+    let at = start .args .at in
+    let table = start .args .table .now in
+    let area = start .args .area in
+    let k = start .args .k in
+    let i = turn .loop .i in
+    let there =
+    place-of .place-of .ensures
+    ∙ run-place k (start .pre .0) (start .pre .1) i (test .loop-test .taken) (stepped .stepped .result) (stepped .stepped .ensures) in (
       omega arith,
-      c .before .before .enter .ensures
-          ∙ ap₂ (λ t p. enter-one (c .before .before .before .before .before .before .before .before .before .args .by-square) t (c .before .before .before .before .before .before .before .before .before .args .at + i) p) (c .before .before .before .before .before .before .before .loop .inv .1) there
-          ∙ sym (row-over (enter-one (c .before .before .before .before .before .before .before .before .before .args .by-square)) (c .before .before .before .before .before .before .before .before .before .args .table .now) (c .before .before .before .before .before .before .before .before .before .args .area .w) (c .before .before .before .before .before .before .before .before .before .args .at) (block k .run) i (block k .start))
-          ∙ ap (λ n. over (enter-one (c .before .before .before .before .before .before .before .before .before .args .by-square)) (c .before .before .before .before .before .before .before .before .before .args .table .now) (c .before .before .before .before .before .before .before .before .before .args .at) (map (place (c .before .before .before .before .before .before .before .before .before .args .area .w)) (row (block k .run) n (block k .start)))) (sym (add-one i)),
+      enter .enter .ensures
+          ∙ ap₂ (λ t p. enter-one by-square t (at + i) p) (turn .loop .inv .1) there
+          ∙ sym (row-over (enter-one by-square) table (area .w) at (block k .run) i (block k .start))
+          ∙ ap (λ n. over (enter-one by-square) table at (map (place (area .w)) (row (block k .run) n (block k .start)))) (sym (add-one i)),
     )
 
 same-length : tie.Need-same-length Inv-loop μ-loop
-same-length c = ap length (c .before .loop .inv .1) ∙ enter-length (c .before .before .before .args .by-square) (c .before .before .before .args .table .now) (c .before .before .before .args .at) (map (place (c .before .before .before .args .area .w)) (row (block (c .before .before .before .args .k) .run) (c .before .loop .i) (block (c .before .before .before .args .k) .start)))
+same-length c =
+    let start = c .before .before .before in
+    let k = start .args .k in
+    ap length (c .before .loop .inv .1)
+    ∙ enter-length (start .args .by-square) (start .args .table .now) (start .args .at)
+    (map (place (start .args .area .w)) (row (block k .run) (c .before .loop .i) (block k .start)))
 
 returns : tie.Need-returns Inv-loop μ-loop
 returns c =
-    let k = c .before .before .before .args .k in
-    let all : c .before .loop .i ≡ k .a = let most = c .before .loop .inv .0 in let last = c .loop-test .left in omega arith in (
-      c .before .loop .inv .1
-          ∙ ap (λ n. over (enter-one (c .before .before .before .args .by-square)) (c .before .before .before .args .table .now) (c .before .before .before .args .at) (map (place (c .before .before .before .args .area .w)) (row (block k .run) n (block k .start)))) all
-          ∙ run-over (c .before .before .before .args .k) (c .before .before .before .pre .0) (enter-one (c .before .before .before .args .by-square)) (c .before .before .before .args .table .now) (c .before .before .before .pre .1),
-      run-count (c .before .before .before .args .k) (c .before .before .before .pre .0) (c .before .before .before .pre .1),
+    let turn = c .before in
+    let start = turn .before .before in
+    let room = start .pre .0 in
+    let straight = start .pre .1 in
+    let by-square = start .args .by-square in
+    let table = start .args .table .now in
+    let k = start .args .k in
+    let all : turn .loop .i ≡ k .a = let most = turn .loop .inv .0 in let last = c .loop-test .left in omega arith in (
+      turn .loop .inv .1
+          ∙ ap (λ n. over (enter-one by-square) table (start .args .at) (map (place (start .args .area .w)) (row (block k .run) n (block k .start)))) all
+          ∙ run-over k room (enter-one by-square) table straight,
+      run-count k room straight,
     )
 
 pub fill-run-spec : {M : Type 1} → statement M

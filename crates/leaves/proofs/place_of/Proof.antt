@@ -19,10 +19,10 @@ either-requires c κs = search needs
 
 mul-result : tie.Need-mul-result
 mul-result c =
-    let start = c .before .args in
-    let is = place-by (start .along) (start .across) (start .turned) (start .w) in
+    let given = c .before .args in
+    let is = place-by (given .along) (given .across) (given .turned) (given .w) in
     let all = c .before .pre in
-    let row : c .either .result * start .w ≡ cond (start .turned) (start .along) (start .across) * start .w = ap (λ n. n * start .w) (c .either .ensures) in
+    let row : c .either .result * given .w ≡ cond (given .turned) (given .along) (given .across) * given .w = ap (λ n. n * given .w) (c .either .ensures) in
     record { fits = omega arith }
 
 either-requires-2 : tie.Need-either-requires-2
@@ -30,14 +30,16 @@ either-requires-2 c κs = search needs
 
 add-result : tie.Need-add-result
 add-result c =
-    let start = c .before .before .args in
-    let is = ap₂ (λ m n. m * start .w + n) (c .before .either .ensures) (c .either2 .ensures) ∙ place-by (start .along) (start .across) (start .turned) (start .w) in
-    record { fits = subst⁻¹ (λ (n : ℕ). n < 4294967296) is (c .before .before .pre) }
+    let start = c .before .before in
+    let given = start .args in
+    let is =
+    ap₂ (λ m n. m * given .w + n) (c .before .either .ensures) (c .either2 .ensures) ∙ place-by (given .along) (given .across) (given .turned) (given .w) in
+    record { fits = subst⁻¹ (λ (n : ℕ). n < 4294967296) is (start .pre) }
 
 returns : tie.Need-returns
 returns c =
-    let start = c .before .before .args in
-    ap₂ (λ m n. m * start .w + n) (c .before .either .ensures) (c .either2 .ensures) ∙ place-by (start .along) (start .across) (start .turned) (start .w)
+    let given = c .before .before .args in
+    ap₂ (λ m n. m * given .w + n) (c .before .either .ensures) (c .either2 .ensures) ∙ place-by (given .along) (given .across) (given .turned) (given .w)
 
 pub place-of-spec : {M : Type 1} → statement M
 place-of-spec =
