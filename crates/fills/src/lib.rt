@@ -42,7 +42,8 @@ fn fill_choice(
     by_square: bool,
 ) -> u64
     requires { ⌜ Fits (area .w) (area .h) (now table) (block-at along across turned back a b) at ⌝ }
-    ensures { λ r. ⌜ (now (table .exit) ≡ filled-with «by_square» (area .w) (now (table .entry)) (block-at along across turned back a b) at) × (r ≡ length (blocks (block-at along across turned back a b))) ⌝ }
+    ensures { λ r. ⌜ (now (table .exit) ≡ filled-with «by_square» (area .w) (now (table .entry)) (block-at along across turned back a b) at)
+        × (r ≡ length (blocks (block-at along across turned back a b))) ⌝ }
 {
     let k = Placed {
         along,

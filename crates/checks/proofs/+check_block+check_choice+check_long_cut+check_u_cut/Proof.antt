@@ -1,6 +1,5 @@
--- `checks::check_block`, `check_choice`, `check_long_cut` and `check_u_cut` meet their contracts, by the laws of `Parts`: the parts' looks in order are the block's.
--- The measure is three times the block's area plus 0 for a cut, 1 for `check_choice` and 2 for `check_block`, since block, choice and cut are three calls
--- on one block.
+-- The four functions of a check meet their contracts, by the laws of `Parts`: the parts' looks in order are the block's. The measure is three times the
+-- block's area, plus 0 for a cut, 1 for `check_choice` and 2 for `check_block`: block, choice and cut are three calls on one block.
 use mathlib.Core.Path.{refl, sym, ap, ap₂, subst, _∙_}
 use Prim.Native.Nat.{ℕ, _+_, _-_, _*_, _/_, _<_}
 use native.Mathlib.Omega.{arith}
@@ -96,7 +95,20 @@ check-block-calls t = (check-choice-below t, check-choice.Post)
 
 -- what is asked and learnt at each call of `check-choice`
 abbrev check-choice-calls : ℕ → check-choice-lts.Claims
-check-choice-calls t = (choose-reads.Asked, choose-reads.Learnt, check-run-reads.Asked, check-run-reads.Learnt, exchanged-block-reads.Asked, exchanged-block-reads.Learnt, check-long-cut-below t, check-long-cut.Post, check-leaf-reads.Asked, check-leaf-reads.Learnt, check-u-cut-below t, check-u-cut.Post)
+check-choice-calls t = (
+  choose-reads.Asked,
+  choose-reads.Learnt,
+  check-run-reads.Asked,
+  check-run-reads.Learnt,
+  exchanged-block-reads.Asked,
+  exchanged-block-reads.Learnt,
+  check-long-cut-below t,
+  check-long-cut.Post,
+  check-leaf-reads.Asked,
+  check-leaf-reads.Learnt,
+  check-u-cut-below t,
+  check-u-cut.Post,
+)
 
 -- what is asked and learnt at each call of `check-long-cut`
 abbrev check-long-cut-calls : ℕ → check-long-cut-lts.Claims
@@ -104,7 +116,18 @@ check-long-cut-calls t = (even-half-reads.Asked, even-half-reads.Learnt, long-pa
 
 -- what is asked and learnt at each call of `check-u-cut`
 abbrev check-u-cut-calls : ℕ → check-u-cut-lts.Claims
-check-u-cut-calls t = (even-half-reads.Asked, even-half-reads.Learnt, part-a-reads.Asked, part-a-reads.Learnt, check-block-below t, check-block.Post, part-b-reads.Asked, part-b-reads.Learnt, part-c-reads.Asked, part-c-reads.Learnt)
+check-u-cut-calls t = (
+  even-half-reads.Asked,
+  even-half-reads.Learnt,
+  part-a-reads.Asked,
+  part-a-reads.Learnt,
+  check-block-below t,
+  check-block.Post,
+  part-b-reads.Asked,
+  part-b-reads.Learnt,
+  part-c-reads.Asked,
+  part-c-reads.Learnt,
+)
 
 check-block-check-choice-requires : (t : ℕ) → check-block-lts.Need-check-choice-requires (check-block-calls t) (check-block-at t) check-block.Post
 check-block-check-choice-requires t c κs = (let m = c .before .pre .0 in omega arith, c .before .pre .1)
@@ -128,31 +151,51 @@ check-choice-exchanged-block-requires : (t : ℕ) → check-choice-lts.Need-exch
 check-choice-exchanged-block-requires t c κs = tt
 
 check-choice-check-run-requires-2 : (t : ℕ) → check-choice-lts.Need-check-run-requires-2 (check-choice-calls t) (check-choice-at t) check-choice.Post
-check-choice-check-run-requires-2 t c κs = side-call (c .before .before .before .before .before .pre .1) (sym (c .before .before .before .choose .ensures) ∙ c .before .enum-told2 .given .1) (c .exchanged-block .result) (c .exchanged-block .ensures)
+check-choice-check-run-requires-2 t c κs =
+    let choose = c .before .before .before in
+    let start = choose .before .before in
+    side-call (start .pre .1) (sym (choose .choose .ensures) ∙ c .before .enum-told2 .given .1) (c .exchanged-block .result) (c .exchanged-block .ensures)
 
 check-choice-enum-told-3 : (t : ℕ) → check-choice-lts.Need-enum-told-3 (check-choice-calls t) (check-choice-at t) check-choice.Post
 check-choice-enum-told-3 t c = c .match .keys3
 
 check-choice-check-long-cut-requires : (t : ℕ) → check-choice-lts.Need-check-long-cut-requires (check-choice-calls t) (check-choice-at t) check-choice.Post
-check-choice-check-long-cut-requires t c κs = (let m = c .before .before .before .before .pre .0 in omega arith, (c .before .before .before .before .pre .1, (sym (c .before .before .choose .ensures) ∙ c .enum-told3 .given .1)))
+check-choice-check-long-cut-requires t c κs =
+    let choose = c .before .before in
+    let start = choose .before .before in
+    (let m = start .pre .0 in omega arith, (start .pre .1, (sym (choose .choose .ensures) ∙ c .enum-told3 .given .1)))
 
 check-choice-enum-told-4 : (t : ℕ) → check-choice-lts.Need-enum-told-4 (check-choice-calls t) (check-choice-at t) check-choice.Post
 check-choice-enum-told-4 t c = c .match .keys4
 
 check-choice-check-leaf-requires : (t : ℕ) → check-choice-lts.Need-check-leaf-requires (check-choice-calls t) (check-choice-at t) check-choice.Post
-check-choice-check-leaf-requires t c κs = (c .before .before .before .before .before .before .pre .1, c .before .if1 .taken, u-deep (c .before .before .before .before .before .before .pre .1) (sym (c .before .before .before .before .choose .ensures) ∙ c .before .before .enum-told4 .given .1), c .if2 .taken)
+check-choice-check-leaf-requires t c κs =
+    let told4 = c .before .before in
+    let choose = told4 .before .before in
+    let start = choose .before .before in
+    let room = start .pre .1 in
+    (room, c .before .if1 .taken, u-deep room (sym (choose .choose .ensures) ∙ told4 .enum-told4 .given .1), c .if2 .taken)
 
 check-choice-returns : (t : ℕ) → check-choice-lts.Need-returns (check-choice-calls t) (check-choice-at t) check-choice.Post
 check-choice-returns t c = c .check-leaf .ensures
 
 check-choice-check-u-cut-requires : (t : ℕ) → check-choice-lts.Need-check-u-cut-requires (check-choice-calls t) (check-choice-at t) check-choice.Post
-check-choice-check-u-cut-requires t c κs = (let m = c .before .before .before .before .before .pre .0 in omega arith, (c .before .before .before .before .before .pre .1, (sym (c .before .before .before .choose .ensures) ∙ c .before .enum-told4 .given .1)))
+check-choice-check-u-cut-requires t c κs =
+    let choose = c .before .before .before in
+    let start = choose .before .before in
+    (let m = start .pre .0 in omega arith, (start .pre .1, (sym (choose .choose .ensures) ∙ c .before .enum-told4 .given .1)))
 
 check-choice-returns-2 : (t : ℕ) → check-choice-lts.Need-returns-2 (check-choice-calls t) (check-choice-at t) check-choice.Post
 check-choice-returns-2 t c = c .check-run .ensures
 
 check-choice-returns-3 : (t : ℕ) → check-choice-lts.Need-returns-3 (check-choice-calls t) (check-choice-at t) check-choice.Post
-check-choice-returns-3 t c = c .check-run2 .ensures ∙ side-over (c .before .before .before .before .before .before .pre .1) (sym (c .before .before .before .before .choose .ensures) ∙ c .before .before .enum-told2 .given .1) (least-one (c .before .before .before .before .before .before .args .by-square) (c .before .before .before .before .before .before .args .table .now)) (c .before .before .before .before .before .before .args .so-far) (c .before .exchanged-block .result) (c .before .exchanged-block .ensures)
+check-choice-returns-3 t c =
+    let told2 = c .before .before in
+    let choose = told2 .before .before in
+    let start = choose .before .before in
+    c .check-run2 .ensures
+    ∙ side-over (start .pre .1) (sym (choose .choose .ensures) ∙ told2 .enum-told2 .given .1) (least-one (start .args .by-square) (start .args .table .now))
+    (start .args .so-far) (c .before .exchanged-block .result) (c .before .exchanged-block .ensures)
 
 check-choice-returns-4 : (t : ℕ) → check-choice-lts.Need-returns-4 (check-choice-calls t) (check-choice-at t) check-choice.Post
 check-choice-returns-4 t c = c .check-long-cut .ensures
@@ -164,83 +207,152 @@ check-long-cut-even-half-requires : (t : ℕ) → check-long-cut-lts.Need-even-h
 check-long-cut-even-half-requires t c κs = tt
 
 check-long-cut-mul-to-second : (t : ℕ) → check-long-cut-lts.Need-mul-to-second (check-long-cut-calls t) (check-long-cut-at t) check-long-cut.Post
-check-long-cut-mul-to-second t c = record { fits = second-number (c .before .before .before .pre .1 .0) (c .before .before .before .pre .1 .1) (c .before .even-half .ensures) .0 }
+check-long-cut-mul-to-second t c =
+    let start = c .before .before .before in
+    record { fits = second-number (start .pre .1 .0) (start .pre .1 .1) (c .before .even-half .ensures) .0 }
 
 check-long-cut-add-to-second : (t : ℕ) → check-long-cut-lts.Need-add-to-second (check-long-cut-calls t) (check-long-cut-at t) check-long-cut.Post
-check-long-cut-add-to-second t c = record { fits = second-number (c .before .before .before .pre .1 .0) (c .before .before .before .pre .1 .1) (c .before .even-half .ensures) .1 }
+check-long-cut-add-to-second t c =
+    let start = c .before .before .before in
+    record { fits = second-number (start .pre .1 .0) (start .pre .1 .1) (c .before .even-half .ensures) .1 }
 
 check-long-cut-long-part-requires : (t : ℕ) → check-long-cut-lts.Need-long-part-requires (check-long-cut-calls t) (check-long-cut-at t) check-long-cut.Post
-check-long-cut-long-part-requires t c κs = (largest (c .before .before .before .pre .1 .0), c .before .before .before .pre .1 .1)
+check-long-cut-long-part-requires t c κs =
+    let start = c .before .before .before in
+    (largest (start .pre .1 .0), start .pre .1 .1)
 
 check-long-cut-check-block-requires : (t : ℕ) → check-long-cut-lts.Need-check-block-requires (check-long-cut-calls t) (check-long-cut-at t) check-long-cut.Post
-check-long-cut-check-block-requires t c κs = let next = first-call (c .before .before .before .before .pre .1 .0) (c .before .before .before .before .pre .1 .1) (c .before .before .even-half .ensures) (c .long-part .result) (c .long-part .ensures) in
-    (subst (λ (m : ℕ). 3 * (c .long-part .result .a * c .long-part .result .b) + 2 < m) (c .before .before .before .before .pre .0) (next .0), next .1)
+check-long-cut-check-block-requires t c κs =
+    let even-half = c .before .before in
+    let start = even-half .before .before in
+    let next = first-call (start .pre .1 .0) (start .pre .1 .1) (even-half .even-half .ensures) (c .long-part .result) (c .long-part .ensures) in
+    (subst (λ (m : ℕ). 3 * (c .long-part .result .a * c .long-part .result .b) + 2 < m) (start .pre .0) (next .0), next .1)
 
 check-long-cut-long-part-requires-2 : (t : ℕ) → check-long-cut-lts.Need-long-part-requires-2 (check-long-cut-calls t) (check-long-cut-at t) check-long-cut.Post
-check-long-cut-long-part-requires-2 t c κs = (largest (c .before .before .before .before .before .pre .1 .0), c .before .before .before .before .before .pre .1 .1)
+check-long-cut-long-part-requires-2 t c κs =
+    let start = c .before .before .before .before .before in
+    (largest (start .pre .1 .0), start .pre .1 .1)
 
-check-long-cut-check-block-requires-2 : (t : ℕ) → check-long-cut-lts.Need-check-block-requires-2 (check-long-cut-calls t) (check-long-cut-at t) check-long-cut.Post
-check-long-cut-check-block-requires-2 t c κs = let next = second-call (c .before .before .before .before .before .before .pre .1 .0) (c .before .before .before .before .before .before .pre .1 .1) (c .before .before .before .before .even-half .ensures) (c .before .before .before .before .before .before .args .table .now) refl (c .long-part2 .result) (c .long-part2 .ensures) in
-    (subst (λ (m : ℕ). 3 * (c .long-part2 .result .a * c .long-part2 .result .b) + 2 < m) (c .before .before .before .before .before .before .pre .0) (next .0), next .1)
+check-long-cut-check-block-requires-2 :
+    (t : ℕ) → check-long-cut-lts.Need-check-block-requires-2 (check-long-cut-calls t) (check-long-cut-at t) check-long-cut.Post
+check-long-cut-check-block-requires-2 t c κs =
+    let even-half = c .before .before .before .before in
+    let start = even-half .before .before in
+    let next =
+    second-call (start .pre .1 .0) (start .pre .1 .1) (even-half .even-half .ensures) (start .args .table .now) refl (c .long-part2 .result)
+    (c .long-part2 .ensures) in
+    (subst (λ (m : ℕ). 3 * (c .long-part2 .result .a * c .long-part2 .result .b) + 2 < m) (start .pre .0) (next .0), next .1)
 
 check-long-cut-returns : (t : ℕ) → check-long-cut-lts.Need-returns (check-long-cut-calls t) (check-long-cut-at t) check-long-cut.Post
-check-long-cut-returns t c = let look = least-one (c .before .before .before .before .before .before .before .args .by-square) (c .before .before .before .before .before .before .before .args .table .now) in
-    let w = c .before .before .before .before .before .before .before .args .area .w in
-    let at = c .before .before .before .before .before .before .before .args .at in
+check-long-cut-returns t c =
+    let at-check-block = c .before .before in
+    let long-part = at-check-block .before in
+    let even-half = long-part .before .before in
+    let start = even-half .before .before in
+    let so-far = start .args .so-far in
+    let look = least-one (start .args .by-square) (start .args .table .now) in
+    let w = start .args .area .w in
+    let at = start .args .at in
     c .check-block2 .ensures
-    ∙ ap₂ (λ l j. over-block look l w j (at + c .before .before .before .before .before .even-half .result * c .before .before .before .before .before .before .before .args .k .b)) (c .before .before .check-block .ensures ∙ ap (λ j. over-block look (c .before .before .before .before .before .before .before .args .so-far) w j at) (c .before .before .before .long-part .ensures)) (c .before .long-part2 .ensures)
-    ∙ long-over (c .before .before .before .before .before .before .before .pre .1 .0) (c .before .before .before .before .before .before .before .pre .1 .1) (c .before .before .before .before .before .even-half .ensures) look (c .before .before .before .before .before .before .before .args .so-far)
+    ∙ ap₂ (λ l j. over-block look l w j (at + even-half .even-half .result * start .args .k .b))
+    (at-check-block .check-block .ensures ∙ ap (λ j. over-block look so-far w j at) (long-part .long-part .ensures))
+    (c .before .long-part2 .ensures)
+    ∙ long-over (start .pre .1 .0) (start .pre .1 .1) (even-half .even-half .ensures) look so-far
 
 check-u-cut-even-half-requires : (t : ℕ) → check-u-cut-lts.Need-even-half-requires (check-u-cut-calls t) (check-u-cut-at t) check-u-cut.Post
 check-u-cut-even-half-requires t c κs = tt
 
 check-u-cut-mul-to-b : (t : ℕ) → check-u-cut-lts.Need-mul-to-b (check-u-cut-calls t) (check-u-cut-at t) check-u-cut.Post
-check-u-cut-mul-to-b t c = record { fits = u-numbers (c .before .before .before .pre .1 .0) (c .before .before .before .pre .1 .1) (c .before .even-half .ensures) .in-a }
+check-u-cut-mul-to-b t c =
+    let start = c .before .before .before in
+    record { fits = u-numbers (start .pre .1 .0) (start .pre .1 .1) (c .before .even-half .ensures) .in-a }
 
 check-u-cut-add-to-b : (t : ℕ) → check-u-cut-lts.Need-add-to-b (check-u-cut-calls t) (check-u-cut-at t) check-u-cut.Post
-check-u-cut-add-to-b t c = record { fits = u-numbers (c .before .before .before .pre .1 .0) (c .before .before .before .pre .1 .1) (c .before .even-half .ensures) .to-b }
+check-u-cut-add-to-b t c =
+    let start = c .before .before .before in
+    record { fits = u-numbers (start .pre .1 .0) (start .pre .1 .1) (c .before .even-half .ensures) .to-b }
 
 check-u-cut-sub-to-c : (t : ℕ) → check-u-cut-lts.Need-sub-to-c (check-u-cut-calls t) (check-u-cut-at t) check-u-cut.Post
-check-u-cut-sub-to-c t c = u-numbers (c .before .before .before .before .pre .1 .0) (c .before .before .before .before .pre .1 .1) (c .before .before .even-half .ensures) .half
+check-u-cut-sub-to-c t c =
+    let even-half = c .before .before in
+    let start = even-half .before .before in
+    u-numbers (start .pre .1 .0) (start .pre .1 .1) (even-half .even-half .ensures) .half
 
 check-u-cut-mul-to-c : (t : ℕ) → check-u-cut-lts.Need-mul-to-c (check-u-cut-calls t) (check-u-cut-at t) check-u-cut.Post
-check-u-cut-mul-to-c t c = record { fits = u-numbers (c .before .before .before .before .before .pre .1 .0) (c .before .before .before .before .before .pre .1 .1) (c .before .before .before .even-half .ensures) .in-b }
+check-u-cut-mul-to-c t c =
+    let even-half = c .before .before .before in
+    let start = even-half .before .before in
+    record { fits = u-numbers (start .pre .1 .0) (start .pre .1 .1) (even-half .even-half .ensures) .in-b }
 
 check-u-cut-add-to-c : (t : ℕ) → check-u-cut-lts.Need-add-to-c (check-u-cut-calls t) (check-u-cut-at t) check-u-cut.Post
-check-u-cut-add-to-c t c = record { fits = u-numbers (c .before .before .before .before .before .pre .1 .0) (c .before .before .before .before .before .pre .1 .1) (c .before .before .before .even-half .ensures) .to-c }
+check-u-cut-add-to-c t c =
+    let even-half = c .before .before .before in
+    let start = even-half .before .before in
+    record { fits = u-numbers (start .pre .1 .0) (start .pre .1 .1) (even-half .even-half .ensures) .to-c }
 
 check-u-cut-part-a-requires : (t : ℕ) → check-u-cut-lts.Need-part-a-requires (check-u-cut-calls t) (check-u-cut-at t) check-u-cut.Post
-check-u-cut-part-a-requires t c κs = (largest (c .before .before .before .before .before .pre .1 .0), c .before .before .before .before .before .pre .1 .1)
+check-u-cut-part-a-requires t c κs =
+    let start = c .before .before .before .before .before in
+    (largest (start .pre .1 .0), start .pre .1 .1)
 
 check-u-cut-check-block-requires : (t : ℕ) → check-u-cut-lts.Need-check-block-requires (check-u-cut-calls t) (check-u-cut-at t) check-u-cut.Post
-check-u-cut-check-block-requires t c κs = let next = a-call (c .before .before .before .before .before .before .pre .1 .0) (c .before .before .before .before .before .before .pre .1 .1) (c .before .before .before .before .even-half .ensures) (c .part-a .result) (c .part-a .ensures) in
-    (subst (λ (m : ℕ). 3 * (c .part-a .result .a * c .part-a .result .b) + 2 < m) (c .before .before .before .before .before .before .pre .0) (next .0), next .1)
+check-u-cut-check-block-requires t c κs =
+    let even-half = c .before .before .before .before in
+    let start = even-half .before .before in
+    let next = a-call (start .pre .1 .0) (start .pre .1 .1) (even-half .even-half .ensures) (c .part-a .result) (c .part-a .ensures) in
+    (subst (λ (m : ℕ). 3 * (c .part-a .result .a * c .part-a .result .b) + 2 < m) (start .pre .0) (next .0), next .1)
 
 check-u-cut-part-b-requires : (t : ℕ) → check-u-cut-lts.Need-part-b-requires (check-u-cut-calls t) (check-u-cut-at t) check-u-cut.Post
-check-u-cut-part-b-requires t c κs = (largest (c .before .before .before .before .before .before .before .pre .1 .0), c .before .before .before .before .before .before .before .pre .1 .1)
+check-u-cut-part-b-requires t c κs =
+    let even-half = c .before .before .before .before .before in
+    let start = even-half .before .before in
+    (largest (start .pre .1 .0), start .pre .1 .1)
 
 check-u-cut-check-block-requires-2 : (t : ℕ) → check-u-cut-lts.Need-check-block-requires-2 (check-u-cut-calls t) (check-u-cut-at t) check-u-cut.Post
-check-u-cut-check-block-requires-2 t c κs = let next = b-call (c .before .before .before .before .before .before .before .before .pre .1 .0) (c .before .before .before .before .before .before .before .before .pre .1 .1) (c .before .before .before .before .before .before .even-half .ensures) (c .before .before .before .before .before .before .before .before .args .table .now) refl (c .part-b .result) (c .part-b .ensures) in
-    (subst (λ (m : ℕ). 3 * (c .part-b .result .a * c .part-b .result .b) + 2 < m) (c .before .before .before .before .before .before .before .before .pre .0) (next .0), next .1)
+check-u-cut-check-block-requires-2 t c κs =
+    let even-half = c .before .before .before .before .before .before in
+    let start = even-half .before .before in
+    let next =
+    b-call (start .pre .1 .0) (start .pre .1 .1) (even-half .even-half .ensures) (start .args .table .now) refl (c .part-b .result) (c .part-b .ensures) in
+    (subst (λ (m : ℕ). 3 * (c .part-b .result .a * c .part-b .result .b) + 2 < m) (start .pre .0) (next .0), next .1)
 
 check-u-cut-part-c-requires : (t : ℕ) → check-u-cut-lts.Need-part-c-requires (check-u-cut-calls t) (check-u-cut-at t) check-u-cut.Post
-check-u-cut-part-c-requires t c κs = (largest (c .before .before .before .before .before .before .before .before .before .pre .1 .0), c .before .before .before .before .before .before .before .before .before .pre .1 .1)
+check-u-cut-part-c-requires t c κs =
+    let part-a = c .before .before .before in
+    let start = part-a .before .before .before .before .before .before in
+    (largest (start .pre .1 .0), start .pre .1 .1)
 
 check-u-cut-check-block-requires-3 : (t : ℕ) → check-u-cut-lts.Need-check-block-requires-3 (check-u-cut-calls t) (check-u-cut-at t) check-u-cut.Post
-check-u-cut-check-block-requires-3 t c κs = let next = c-call (c .before .before .before .before .before .before .before .before .before .before .pre .1 .0) (c .before .before .before .before .before .before .before .before .before .before .pre .1 .1) (c .before .before .before .before .before .before .before .before .even-half .ensures) (c .before .before .before .before .before .before .before .before .before .before .args .table .now) refl (c .part-c .result) (c .part-c .ensures) in
-    (subst (λ (m : ℕ). 3 * (c .part-c .result .a * c .part-c .result .b) + 2 < m) (c .before .before .before .before .before .before .before .before .before .before .pre .0) (next .0), next .1)
+check-u-cut-check-block-requires-3 t c κs =
+    let part-a = c .before .before .before .before in
+    let even-half = part-a .before .before .before .before in
+    let start = even-half .before .before in
+    let next =
+    c-call (start .pre .1 .0) (start .pre .1 .1) (even-half .even-half .ensures) (start .args .table .now) refl (c .part-c .result) (c .part-c .ensures) in
+    (subst (λ (m : ℕ). 3 * (c .part-c .result .a * c .part-c .result .b) + 2 < m) (start .pre .0) (next .0), next .1)
 
 check-u-cut-returns : (t : ℕ) → check-u-cut-lts.Need-returns (check-u-cut-calls t) (check-u-cut-at t) check-u-cut.Post
-check-u-cut-returns t c = let look = least-one (c .before .before .before .before .before .before .before .before .before .before .before .args .by-square) (c .before .before .before .before .before .before .before .before .before .before .before .args .table .now) in
-    let w = c .before .before .before .before .before .before .before .before .before .before .before .args .area .w in
-    let at = c .before .before .before .before .before .before .before .before .before .before .before .args .at in
-    let k = c .before .before .before .before .before .before .before .before .before .before .before .args .k in
-    let e = c .before .before .before .before .before .before .before .before .before .even-half .result in
+check-u-cut-returns t c =
+    let check-block2 = c .before .before in
+    let part-b = check-block2 .before in
+    let at-check-block = part-b .before in
+    let part-a = at-check-block .before in
+    let even-half = part-a .before .before .before .before in
+    let start = even-half .before .before in
+    let so-far = start .args .so-far in
+    let look = least-one (start .args .by-square) (start .args .table .now) in
+    let w = start .args .area .w in
+    let at = start .args .at in
+    let k = start .args .k in
+    let e = even-half .even-half .result in
     c .check-block3 .ensures
     ∙ ap₂ (λ l j. over-block look l w j (at + e * (k .a / 2) + k .a * (k .b - e)))
-    (c .before .before .check-block2 .ensures
-    ∙ ap₂ (λ l j. over-block look l w j (at + e * (k .a / 2))) (c .before .before .before .before .check-block .ensures ∙ ap (λ j. over-block look (c .before .before .before .before .before .before .before .before .before .before .before .args .so-far) w j at) (c .before .before .before .before .before .part-a .ensures)) (c .before .before .before .part-b .ensures)) (c .before .part-c .ensures)
-    ∙ u-over (c .before .before .before .before .before .before .before .before .before .before .before .pre .1 .0) (c .before .before .before .before .before .before .before .before .before .before .before .pre .1 .1) (c .before .before .before .before .before .before .before .before .before .even-half .ensures) look (c .before .before .before .before .before .before .before .before .before .before .before .args .so-far)
+    (check-block2 .check-block2 .ensures
+    ∙ ap₂ (λ l j. over-block look l w j (at + e * (k .a / 2)))
+    (at-check-block .check-block .ensures ∙ ap (λ j. over-block look so-far w j at) (part-a .part-a .ensures))
+    (part-b .part-b .ensures))
+    (c .before .part-c .ensures)
+    ∙ u-over (start .pre .1 .0) (start .pre .1 .1) (even-half .even-half .ensures) look so-far
 
 pub +check-block+check-choice+check-long-cut+check-u-cut-spec : {M : Type 1} → statement M
 +check-block+check-choice+check-long-cut+check-u-cut-spec =

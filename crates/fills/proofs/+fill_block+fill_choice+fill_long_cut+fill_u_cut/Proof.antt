@@ -1,6 +1,5 @@
--- `fills::fill_block`, `fill_choice`, `fill_long_cut` and `fill_u_cut` meet their contracts, by the laws of `Parts` and `Counts`: the parts' entries in order are the block's.
--- The measure is three times the block's area plus 0 for a cut, 1 for `fill_choice` and 2 for `fill_block`, since block, choice and cut are three calls
--- on one block.
+-- The four functions of a fill meet their contracts, by the laws of `Parts` and `Counts`: the parts' entries in order are the block's. The measure is three
+-- times the block's area, plus 0 for a cut, 1 for `fill_choice` and 2 for `fill_block`: block, choice and cut are three calls on one block.
 use mathlib.Core.Path.{sym, ap, ap₂, subst, _∙_}
 use Prim.Native.Nat.{ℕ, _+_, _-_, _*_, _/_, _<_}
 use native.Mathlib.Omega.{arith}
@@ -91,7 +90,20 @@ fill-block-calls t = (fill-choice-below t, fill-choice.Post)
 
 -- what is asked and learnt at each call of `fill-choice`
 abbrev fill-choice-calls : ℕ → fill-choice-lts.Claims
-fill-choice-calls t = (choose-reads.Asked, choose-reads.Learnt, fill-run-reads.Asked, fill-run-reads.Learnt, exchanged-block-reads.Asked, exchanged-block-reads.Learnt, fill-long-cut-below t, fill-long-cut.Post, fill-leaf-reads.Asked, fill-leaf-reads.Learnt, fill-u-cut-below t, fill-u-cut.Post)
+fill-choice-calls t = (
+  choose-reads.Asked,
+  choose-reads.Learnt,
+  fill-run-reads.Asked,
+  fill-run-reads.Learnt,
+  exchanged-block-reads.Asked,
+  exchanged-block-reads.Learnt,
+  fill-long-cut-below t,
+  fill-long-cut.Post,
+  fill-leaf-reads.Asked,
+  fill-leaf-reads.Learnt,
+  fill-u-cut-below t,
+  fill-u-cut.Post,
+)
 
 -- what is asked and learnt at each call of `fill-long-cut`
 abbrev fill-long-cut-calls : ℕ → fill-long-cut-lts.Claims
@@ -99,7 +111,18 @@ fill-long-cut-calls t = (even-half-reads.Asked, even-half-reads.Learnt, long-par
 
 -- what is asked and learnt at each call of `fill-u-cut`
 abbrev fill-u-cut-calls : ℕ → fill-u-cut-lts.Claims
-fill-u-cut-calls t = (even-half-reads.Asked, even-half-reads.Learnt, part-a-reads.Asked, part-a-reads.Learnt, fill-block-below t, fill-block.Post, part-b-reads.Asked, part-b-reads.Learnt, part-c-reads.Asked, part-c-reads.Learnt)
+fill-u-cut-calls t = (
+  even-half-reads.Asked,
+  even-half-reads.Learnt,
+  part-a-reads.Asked,
+  part-a-reads.Learnt,
+  fill-block-below t,
+  fill-block.Post,
+  part-b-reads.Asked,
+  part-b-reads.Learnt,
+  part-c-reads.Asked,
+  part-c-reads.Learnt,
+)
 
 fill-block-fill-choice-requires : (t : ℕ) → fill-block-lts.Need-fill-choice-requires (fill-block-calls t) (fill-block-at t) fill-block.Post
 fill-block-fill-choice-requires t c κs = (let m = c .before .before .pre .0 in omega arith, c .before .before .pre .1)
@@ -122,7 +145,10 @@ fill-choice-enum-told : (t : ℕ) → fill-choice-lts.Need-enum-told (fill-choic
 fill-choice-enum-told t c = c .match .keys1
 
 fill-choice-fill-run-requires : (t : ℕ) → fill-choice-lts.Need-fill-run-requires (fill-choice-calls t) (fill-choice-at t) fill-choice.Post
-fill-choice-fill-run-requires t c κs = (c .before .before .before .before .before .pre .1, (sym (c .before .before .before .choose .ensures) ∙ c .before .enum-told .given .1))
+fill-choice-fill-run-requires t c κs =
+    let choose = c .before .before .before in
+    let start = choose .before .before in
+    (start .pre .1, (sym (choose .choose .ensures) ∙ c .before .enum-told .given .1))
 
 fill-choice-enum-told-2 : (t : ℕ) → fill-choice-lts.Need-enum-told-2 (fill-choice-calls t) (fill-choice-at t) fill-choice.Post
 fill-choice-enum-told-2 t c = c .match .keys2
@@ -131,19 +157,32 @@ fill-choice-exchanged-block-requires : (t : ℕ) → fill-choice-lts.Need-exchan
 fill-choice-exchanged-block-requires t c κs = tt
 
 fill-choice-fill-run-requires-2 : (t : ℕ) → fill-choice-lts.Need-fill-run-requires-2 (fill-choice-calls t) (fill-choice-at t) fill-choice.Post
-fill-choice-fill-run-requires-2 t c κs = side-call (c .before .before .before .before .before .before .pre .1) (sym (c .before .before .before .before .choose .ensures) ∙ c .before .before .enum-told2 .given .1) (c .exchanged-block .result) (c .exchanged-block .ensures)
+fill-choice-fill-run-requires-2 t c κs =
+    let told2 = c .before .before in
+    let choose = told2 .before .before in
+    let start = choose .before .before in
+    side-call (start .pre .1) (sym (choose .choose .ensures) ∙ told2 .enum-told2 .given .1) (c .exchanged-block .result) (c .exchanged-block .ensures)
 
 fill-choice-enum-told-3 : (t : ℕ) → fill-choice-lts.Need-enum-told-3 (fill-choice-calls t) (fill-choice-at t) fill-choice.Post
 fill-choice-enum-told-3 t c = c .match .keys3
 
 fill-choice-fill-long-cut-requires : (t : ℕ) → fill-choice-lts.Need-fill-long-cut-requires (fill-choice-calls t) (fill-choice-at t) fill-choice.Post
-fill-choice-fill-long-cut-requires t c κs = (let m = c .before .before .before .before .before .pre .0 in omega arith, (c .before .before .before .before .before .pre .1, (sym (c .before .before .before .choose .ensures) ∙ c .before .enum-told3 .given .1)))
+fill-choice-fill-long-cut-requires t c κs =
+    let choose = c .before .before .before in
+    let start = choose .before .before in
+    (let m = start .pre .0 in omega arith, (start .pre .1, (sym (choose .choose .ensures) ∙ c .before .enum-told3 .given .1)))
 
 fill-choice-enum-told-4 : (t : ℕ) → fill-choice-lts.Need-enum-told-4 (fill-choice-calls t) (fill-choice-at t) fill-choice.Post
 fill-choice-enum-told-4 t c = c .match .keys4
 
 fill-choice-fill-leaf-requires : (t : ℕ) → fill-choice-lts.Need-fill-leaf-requires (fill-choice-calls t) (fill-choice-at t) fill-choice.Post
-fill-choice-fill-leaf-requires t c κs = (c .before .before .before .before .before .before .before .pre .1, c .before .before .if1 .taken, u-deep (c .before .before .before .before .before .before .before .pre .1) (sym (c .before .before .before .before .before .choose .ensures) ∙ c .before .before .before .enum-told4 .given .1), c .before .if2 .taken)
+fill-choice-fill-leaf-requires t c κs =
+    let first-test = c .before .before in
+    let told4 = first-test .before in
+    let choose = told4 .before .before in
+    let start = choose .before .before in
+    let room = start .pre .1 in
+    (room, first-test .if1 .taken, u-deep room (sym (choose .choose .ensures) ∙ told4 .enum-told4 .given .1), c .before .if2 .taken)
 
 fill-choice-same-length : (t : ℕ) → fill-choice-lts.Need-same-length (fill-choice-calls t) (fill-choice-at t) fill-choice.Post
 fill-choice-same-length t c = c .before .before .fill-leaf .kept .0
@@ -152,7 +191,11 @@ fill-choice-returns : (t : ℕ) → fill-choice-lts.Need-returns (fill-choice-ca
 fill-choice-returns t c = c .before .before .fill-leaf .ensures
 
 fill-choice-fill-u-cut-requires : (t : ℕ) → fill-choice-lts.Need-fill-u-cut-requires (fill-choice-calls t) (fill-choice-at t) fill-choice.Post
-fill-choice-fill-u-cut-requires t c κs = (let m = c .before .before .before .before .before .before .pre .0 in omega arith, (c .before .before .before .before .before .before .pre .1, (sym (c .before .before .before .before .choose .ensures) ∙ c .before .before .enum-told4 .given .1)))
+fill-choice-fill-u-cut-requires t c κs =
+    let told4 = c .before .before in
+    let choose = told4 .before .before in
+    let start = choose .before .before in
+    (let m = start .pre .0 in omega arith, (start .pre .1, (sym (choose .choose .ensures) ∙ told4 .enum-told4 .given .1)))
 
 fill-choice-same-length-2 : (t : ℕ) → fill-choice-lts.Need-same-length-2 (fill-choice-calls t) (fill-choice-at t) fill-choice.Post
 fill-choice-same-length-2 t c = c .before .before .fill-run .kept .0
@@ -165,11 +208,16 @@ fill-choice-same-length-3 t c = c .before .before .fill-run2 .kept .0
 
 fill-choice-returns-3 : (t : ℕ) → fill-choice-lts.Need-returns-3 (fill-choice-calls t) (fill-choice-at t) fill-choice.Post
 fill-choice-returns-3 t c =
-    let f = c .before .before .before .before .before .before .before .before .before .pre .1 in
-    let is = sym (c .before .before .before .before .before .before .before .choose .ensures) ∙ c .before .before .before .before .before .enum-told2 .given .1 in
-    let r = c .before .before .before .exchanged-block in (
-      c .before .before .fill-run2 .ensures .0 ∙ side-over f is (enter-one (c .before .before .before .before .before .before .before .before .before .args .by-square)) (c .before .before .before .before .before .before .before .before .before .args .table .now) (r .result) (r .ensures),
-      c .before .before .fill-run2 .ensures .1 ∙ side-count f is (r .result) (r .ensures),
+    let fill-run2 = c .before .before in
+    let exchanged-block = fill-run2 .before in
+    let told2 = exchanged-block .before .before in
+    let choose = told2 .before .before in
+    let start = choose .before .before in
+    let f = start .pre .1 in
+    let is = sym (choose .choose .ensures) ∙ told2 .enum-told2 .given .1 in
+    let r = exchanged-block .exchanged-block in (
+      fill-run2 .fill-run2 .ensures .0 ∙ side-over f is (enter-one (start .args .by-square)) (start .args .table .now) (r .result) (r .ensures),
+      fill-run2 .fill-run2 .ensures .1 ∙ side-count f is (r .result) (r .ensures),
     )
 
 fill-choice-same-length-4 : (t : ℕ) → fill-choice-lts.Need-same-length-4 (fill-choice-calls t) (fill-choice-at t) fill-choice.Post
@@ -188,98 +236,181 @@ fill-long-cut-even-half-requires : (t : ℕ) → fill-long-cut-lts.Need-even-hal
 fill-long-cut-even-half-requires t c κs = tt
 
 fill-long-cut-mul-to-second : (t : ℕ) → fill-long-cut-lts.Need-mul-to-second (fill-long-cut-calls t) (fill-long-cut-at t) fill-long-cut.Post
-fill-long-cut-mul-to-second t c = record { fits = second-number (c .before .before .before .pre .1 .0) (c .before .before .before .pre .1 .1) (c .before .even-half .ensures) .0 }
+fill-long-cut-mul-to-second t c =
+    let start = c .before .before .before in
+    record { fits = second-number (start .pre .1 .0) (start .pre .1 .1) (c .before .even-half .ensures) .0 }
 
 fill-long-cut-add-to-second : (t : ℕ) → fill-long-cut-lts.Need-add-to-second (fill-long-cut-calls t) (fill-long-cut-at t) fill-long-cut.Post
-fill-long-cut-add-to-second t c = record { fits = second-number (c .before .before .before .pre .1 .0) (c .before .before .before .pre .1 .1) (c .before .even-half .ensures) .1 }
+fill-long-cut-add-to-second t c =
+    let start = c .before .before .before in
+    record { fits = second-number (start .pre .1 .0) (start .pre .1 .1) (c .before .even-half .ensures) .1 }
 
 fill-long-cut-long-part-requires : (t : ℕ) → fill-long-cut-lts.Need-long-part-requires (fill-long-cut-calls t) (fill-long-cut-at t) fill-long-cut.Post
-fill-long-cut-long-part-requires t c κs = (largest (c .before .before .before .before .pre .1 .0), c .before .before .before .before .pre .1 .1)
+fill-long-cut-long-part-requires t c κs =
+    let start = c .before .before .before .before in
+    (largest (start .pre .1 .0), start .pre .1 .1)
 
 fill-long-cut-fill-block-requires : (t : ℕ) → fill-long-cut-lts.Need-fill-block-requires (fill-long-cut-calls t) (fill-long-cut-at t) fill-long-cut.Post
-fill-long-cut-fill-block-requires t c κs = let next = first-call (c .before .before .before .before .before .pre .1 .0) (c .before .before .before .before .before .pre .1 .1) (c .before .before .before .even-half .ensures) (c .long-part .result) (c .long-part .ensures) in
-    (subst (λ (m : ℕ). 3 * (c .long-part .result .a * c .long-part .result .b) + 2 < m) (c .before .before .before .before .before .pre .0) (next .0), next .1)
+fill-long-cut-fill-block-requires t c κs =
+    let even-half = c .before .before .before in
+    let start = even-half .before .before in
+    let next = first-call (start .pre .1 .0) (start .pre .1 .1) (even-half .even-half .ensures) (c .long-part .result) (c .long-part .ensures) in
+    (subst (λ (m : ℕ). 3 * (c .long-part .result .a * c .long-part .result .b) + 2 < m) (start .pre .0) (next .0), next .1)
 
 fill-long-cut-long-part-requires-2 : (t : ℕ) → fill-long-cut-lts.Need-long-part-requires-2 (fill-long-cut-calls t) (fill-long-cut-at t) fill-long-cut.Post
-fill-long-cut-long-part-requires-2 t c κs = (largest (c .before .before .before .before .before .before .before .before .before .pre .1 .0), c .before .before .before .before .before .before .before .before .before .pre .1 .1)
+fill-long-cut-long-part-requires-2 t c κs =
+    let long-part = c .before .before .before .before in
+    let start = long-part .before .before .before .before .before in
+    (largest (start .pre .1 .0), start .pre .1 .1)
 
 fill-long-cut-fill-block-requires-2 : (t : ℕ) → fill-long-cut-lts.Need-fill-block-requires-2 (fill-long-cut-calls t) (fill-long-cut-at t) fill-long-cut.Post
-fill-long-cut-fill-block-requires-2 t c κs = let next = second-call (c .before .before .before .before .before .before .before .before .before .before .pre .1 .0) (c .before .before .before .before .before .before .before .before .before .before .pre .1 .1) (c .before .before .before .before .before .before .before .before .even-half .ensures) (c .before .before .before .before .fill-block .last .0) (c .before .before .before .before .fill-block .kept .0) (c .long-part2 .result) (c .long-part2 .ensures) in
-    (subst (λ (m : ℕ). 3 * (c .long-part2 .result .a * c .long-part2 .result .b) + 2 < m) (c .before .before .before .before .before .before .before .before .before .before .pre .0) (next .0), next .1)
+fill-long-cut-fill-block-requires-2 t c κs =
+    let at-fill-block = c .before .before .before .before in
+    let even-half = at-fill-block .before .before .before .before in
+    let start = even-half .before .before in
+    let next =
+    second-call (start .pre .1 .0) (start .pre .1 .1) (even-half .even-half .ensures) (at-fill-block .fill-block .last .0) (at-fill-block .fill-block .kept .0)
+    (c .long-part2 .result) (c .long-part2 .ensures) in
+    (subst (λ (m : ℕ). 3 * (c .long-part2 .result .a * c .long-part2 .result .b) + 2 < m) (start .pre .0) (next .0), next .1)
 
 fill-long-cut-add-result-2 : (t : ℕ) → fill-long-cut-lts.Need-add-result-2 (fill-long-cut-calls t) (fill-long-cut-at t) fill-long-cut.Post
 fill-long-cut-add-result-2 t c =
+    let fill-block2 = c .before .before in
+    let long-part2 = fill-block2 .before in
+    let at-fill-block = long-part2 .before .before .before .before in
+    let long-part = at-fill-block .before in
+    let start = long-part .before .before .before .before .before in
     let all =
-    long-fits (c .before .before .before .before .before .before .before .before .before .before .before .before .before .pre .1 .0) (c .before .before .before .before .before .before .before .before .before .before .before .before .before .pre .1 .1)
-    (c .before .before .before .before .before .before .before .fill-block .ensures .1 ∙ ap (λ j. length (blocks j)) (c .before .before .before .before .before .before .before .before .long-part .ensures))
-    (c .before .before .fill-block2 .ensures .1 ∙ ap (λ j. length (blocks j)) (c .before .before .before .long-part2 .ensures)) in
+    long-fits (start .pre .1 .0) (start .pre .1 .1) (at-fill-block .fill-block .ensures .1 ∙ ap (λ j. length (blocks j)) (long-part .long-part .ensures))
+    (fill-block2 .fill-block2 .ensures .1 ∙ ap (λ j. length (blocks j)) (long-part2 .long-part2 .ensures)) in
     record { fits = omega arith }
 
 fill-long-cut-add-result : (t : ℕ) → fill-long-cut-lts.Need-add-result (fill-long-cut-calls t) (fill-long-cut-at t) fill-long-cut.Post
 fill-long-cut-add-result t c = record { fits = let all = fill-long-cut-add-result-2 t c .fits in omega arith }
 
 fill-long-cut-same-length : (t : ℕ) → fill-long-cut-lts.Need-same-length (fill-long-cut-calls t) (fill-long-cut-at t) fill-long-cut.Post
-fill-long-cut-same-length t c = c .before .before .fill-block2 .kept .0 ∙ c .before .before .before .before .before .before .before .fill-block .kept .0
+fill-long-cut-same-length t c =
+    let fill-block2 = c .before .before in
+    fill-block2 .fill-block2 .kept .0 ∙ fill-block2 .before .before .before .before .before .fill-block .kept .0
 
 fill-long-cut-returns : (t : ℕ) → fill-long-cut-lts.Need-returns (fill-long-cut-calls t) (fill-long-cut-at t) fill-long-cut.Post
-fill-long-cut-returns t c = let by-square = c .before .before .before .before .before .before .before .before .before .before .before .before .before .args .by-square in
-    let w = c .before .before .before .before .before .before .before .before .before .before .before .before .before .args .area .w in
-    let first = c .before .before .before .before .before .before .before .before .long-part .ensures in
-    let second = c .before .before .before .long-part2 .ensures in (
-      c .before .before .fill-block2 .ensures .0
-          ∙ ap₂ (λ t j. filled-with by-square w t j (c .before .before .before .before .before .before .before .before .before .before .before .before .before .args .at + c .before .before .before .before .before .before .before .before .before .before .before .even-half .result * c .before .before .before .before .before .before .before .before .before .before .before .before .before .args .k .b))
-          (c .before .before .before .before .before .before .before .fill-block .ensures .0 ∙ ap (λ j. filled-with by-square w (c .before .before .before .before .before .before .before .before .before .before .before .before .before .args .table .now) j (c .before .before .before .before .before .before .before .before .before .before .before .before .before .args .at)) first) second
-          ∙ long-over (c .before .before .before .before .before .before .before .before .before .before .before .before .before .pre .1 .0) (c .before .before .before .before .before .before .before .before .before .before .before .before .before .pre .1 .1) (c .before .before .before .before .before .before .before .before .before .before .before .even-half .ensures) (enter-one by-square) (c .before .before .before .before .before .before .before .before .before .before .before .before .before .args .table .now),
-      long-count (c .before .before .before .before .before .before .before .before .before .before .before .before .before .pre .1 .0) (c .before .before .before .before .before .before .before .before .before .before .before .before .before .pre .1 .1)
-          (c .before .before .before .before .before .before .before .fill-block .ensures .1 ∙ ap (λ j. length (blocks j)) first) (c .before .before .fill-block2 .ensures .1 ∙ ap (λ j. length (blocks j)) second),
+fill-long-cut-returns t c =
+    let fill-block2 = c .before .before in
+    let long-part2 = fill-block2 .before in
+    let at-fill-block = long-part2 .before .before .before .before in
+    let long-part = at-fill-block .before in
+    let even-half = long-part .before .before .before in
+    let start = even-half .before .before in
+    let room = start .pre .1 .0 in
+    let cut = start .pre .1 .1 in
+    let at = start .args .at in
+    let table = start .args .table .now in
+    let by-square = start .args .by-square in
+    let w = start .args .area .w in
+    let first = long-part .long-part .ensures in
+    let second = long-part2 .long-part2 .ensures in (
+      fill-block2 .fill-block2 .ensures .0
+          ∙ ap₂ (λ t j. filled-with by-square w t j (at + even-half .even-half .result * start .args .k .b))
+          (at-fill-block .fill-block .ensures .0 ∙ ap (λ j. filled-with by-square w table j at) first)
+          second
+          ∙ long-over room cut (even-half .even-half .ensures) (enter-one by-square) table,
+      long-count room cut (at-fill-block .fill-block .ensures .1 ∙ ap (λ j. length (blocks j)) first)
+          (fill-block2 .fill-block2 .ensures .1 ∙ ap (λ j. length (blocks j)) second),
     )
 
 fill-u-cut-even-half-requires : (t : ℕ) → fill-u-cut-lts.Need-even-half-requires (fill-u-cut-calls t) (fill-u-cut-at t) fill-u-cut.Post
 fill-u-cut-even-half-requires t c κs = tt
 
 fill-u-cut-mul-to-b : (t : ℕ) → fill-u-cut-lts.Need-mul-to-b (fill-u-cut-calls t) (fill-u-cut-at t) fill-u-cut.Post
-fill-u-cut-mul-to-b t c = record { fits = u-numbers (c .before .before .before .pre .1 .0) (c .before .before .before .pre .1 .1) (c .before .even-half .ensures) .in-a }
+fill-u-cut-mul-to-b t c =
+    let start = c .before .before .before in
+    record { fits = u-numbers (start .pre .1 .0) (start .pre .1 .1) (c .before .even-half .ensures) .in-a }
 
 fill-u-cut-add-to-b : (t : ℕ) → fill-u-cut-lts.Need-add-to-b (fill-u-cut-calls t) (fill-u-cut-at t) fill-u-cut.Post
-fill-u-cut-add-to-b t c = record { fits = u-numbers (c .before .before .before .pre .1 .0) (c .before .before .before .pre .1 .1) (c .before .even-half .ensures) .to-b }
+fill-u-cut-add-to-b t c =
+    let start = c .before .before .before in
+    record { fits = u-numbers (start .pre .1 .0) (start .pre .1 .1) (c .before .even-half .ensures) .to-b }
 
 fill-u-cut-sub-to-c : (t : ℕ) → fill-u-cut-lts.Need-sub-to-c (fill-u-cut-calls t) (fill-u-cut-at t) fill-u-cut.Post
-fill-u-cut-sub-to-c t c = u-numbers (c .before .before .before .before .pre .1 .0) (c .before .before .before .before .pre .1 .1) (c .before .before .even-half .ensures) .half
+fill-u-cut-sub-to-c t c =
+    let even-half = c .before .before in
+    let start = even-half .before .before in
+    u-numbers (start .pre .1 .0) (start .pre .1 .1) (even-half .even-half .ensures) .half
 
 fill-u-cut-mul-to-c : (t : ℕ) → fill-u-cut-lts.Need-mul-to-c (fill-u-cut-calls t) (fill-u-cut-at t) fill-u-cut.Post
-fill-u-cut-mul-to-c t c = record { fits = u-numbers (c .before .before .before .before .before .pre .1 .0) (c .before .before .before .before .before .pre .1 .1) (c .before .before .before .even-half .ensures) .in-b }
+fill-u-cut-mul-to-c t c =
+    let even-half = c .before .before .before in
+    let start = even-half .before .before in
+    record { fits = u-numbers (start .pre .1 .0) (start .pre .1 .1) (even-half .even-half .ensures) .in-b }
 
 fill-u-cut-add-to-c : (t : ℕ) → fill-u-cut-lts.Need-add-to-c (fill-u-cut-calls t) (fill-u-cut-at t) fill-u-cut.Post
-fill-u-cut-add-to-c t c = record { fits = u-numbers (c .before .before .before .before .before .pre .1 .0) (c .before .before .before .before .before .pre .1 .1) (c .before .before .before .even-half .ensures) .to-c }
+fill-u-cut-add-to-c t c =
+    let even-half = c .before .before .before in
+    let start = even-half .before .before in
+    record { fits = u-numbers (start .pre .1 .0) (start .pre .1 .1) (even-half .even-half .ensures) .to-c }
 
 fill-u-cut-part-a-requires : (t : ℕ) → fill-u-cut-lts.Need-part-a-requires (fill-u-cut-calls t) (fill-u-cut-at t) fill-u-cut.Post
-fill-u-cut-part-a-requires t c κs = (largest (c .before .before .before .before .before .before .pre .1 .0), c .before .before .before .before .before .before .pre .1 .1)
+fill-u-cut-part-a-requires t c κs =
+    let start = c .before .before .before .before .before .before in
+    (largest (start .pre .1 .0), start .pre .1 .1)
 
 fill-u-cut-fill-block-requires : (t : ℕ) → fill-u-cut-lts.Need-fill-block-requires (fill-u-cut-calls t) (fill-u-cut-at t) fill-u-cut.Post
-fill-u-cut-fill-block-requires t c κs = let next = a-call (c .before .before .before .before .before .before .before .pre .1 .0) (c .before .before .before .before .before .before .before .pre .1 .1) (c .before .before .before .before .before .even-half .ensures) (c .part-a .result) (c .part-a .ensures) in
-    (subst (λ (m : ℕ). 3 * (c .part-a .result .a * c .part-a .result .b) + 2 < m) (c .before .before .before .before .before .before .before .pre .0) (next .0), next .1)
+fill-u-cut-fill-block-requires t c κs =
+    let even-half = c .before .before .before .before .before in
+    let start = even-half .before .before in
+    let next = a-call (start .pre .1 .0) (start .pre .1 .1) (even-half .even-half .ensures) (c .part-a .result) (c .part-a .ensures) in
+    (subst (λ (m : ℕ). 3 * (c .part-a .result .a * c .part-a .result .b) + 2 < m) (start .pre .0) (next .0), next .1)
 
 fill-u-cut-part-b-requires : (t : ℕ) → fill-u-cut-lts.Need-part-b-requires (fill-u-cut-calls t) (fill-u-cut-at t) fill-u-cut.Post
-fill-u-cut-part-b-requires t c κs = (largest (c .before .before .before .before .before .before .before .before .before .before .before .pre .1 .0), c .before .before .before .before .before .before .before .before .before .before .before .pre .1 .1)
+fill-u-cut-part-b-requires t c κs =
+    let part-a = c .before .before .before .before in
+    let even-half = part-a .before .before .before .before .before in
+    let start = even-half .before .before in
+    (largest (start .pre .1 .0), start .pre .1 .1)
 
 fill-u-cut-fill-block-requires-2 : (t : ℕ) → fill-u-cut-lts.Need-fill-block-requires-2 (fill-u-cut-calls t) (fill-u-cut-at t) fill-u-cut.Post
-fill-u-cut-fill-block-requires-2 t c κs = let next = b-call (c .before .before .before .before .before .before .before .before .before .before .before .before .pre .1 .0) (c .before .before .before .before .before .before .before .before .before .before .before .before .pre .1 .1) (c .before .before .before .before .before .before .before .before .before .before .even-half .ensures) (c .before .before .before .before .fill-block .last .0) (c .before .before .before .before .fill-block .kept .0) (c .part-b .result) (c .part-b .ensures) in
-    (subst (λ (m : ℕ). 3 * (c .part-b .result .a * c .part-b .result .b) + 2 < m) (c .before .before .before .before .before .before .before .before .before .before .before .before .pre .0) (next .0), next .1)
+fill-u-cut-fill-block-requires-2 t c κs =
+    let at-fill-block = c .before .before .before .before in
+    let even-half = at-fill-block .before .before .before .before .before .before in
+    let start = even-half .before .before in
+    let next =
+    b-call (start .pre .1 .0) (start .pre .1 .1) (even-half .even-half .ensures) (at-fill-block .fill-block .last .0) (at-fill-block .fill-block .kept .0)
+    (c .part-b .result) (c .part-b .ensures) in
+    (subst (λ (m : ℕ). 3 * (c .part-b .result .a * c .part-b .result .b) + 2 < m) (start .pre .0) (next .0), next .1)
 
 fill-u-cut-part-c-requires : (t : ℕ) → fill-u-cut-lts.Need-part-c-requires (fill-u-cut-calls t) (fill-u-cut-at t) fill-u-cut.Post
-fill-u-cut-part-c-requires t c κs = (largest (c .before .before .before .before .before .before .before .before .before .before .before .before .before .before .before .before .pre .1 .0), c .before .before .before .before .before .before .before .before .before .before .before .before .before .before .before .before .pre .1 .1)
+fill-u-cut-part-c-requires t c κs =
+    let part-b = c .before .before .before .before in
+    let part-a = part-b .before .before .before .before .before in
+    let even-half = part-a .before .before .before .before .before in
+    let start = even-half .before .before in
+    (largest (start .pre .1 .0), start .pre .1 .1)
 
 fill-u-cut-fill-block-requires-3 : (t : ℕ) → fill-u-cut-lts.Need-fill-block-requires-3 (fill-u-cut-calls t) (fill-u-cut-at t) fill-u-cut.Post
-fill-u-cut-fill-block-requires-3 t c κs = let next = c-call (c .before .before .before .before .before .before .before .before .before .before .before .before .before .before .before .before .before .pre .1 .0) (c .before .before .before .before .before .before .before .before .before .before .before .before .before .before .before .before .before .pre .1 .1) (c .before .before .before .before .before .before .before .before .before .before .before .before .before .before .before .even-half .ensures) (c .before .before .before .before .fill-block2 .last .0) (c .before .before .before .before .fill-block2 .kept .0 ∙ c .before .before .before .before .before .before .before .before .before .fill-block .kept .0) (c .part-c .result) (c .part-c .ensures) in
-    (subst (λ (m : ℕ). 3 * (c .part-c .result .a * c .part-c .result .b) + 2 < m) (c .before .before .before .before .before .before .before .before .before .before .before .before .before .before .before .before .before .pre .0) (next .0), next .1)
+fill-u-cut-fill-block-requires-3 t c κs =
+    let fill-block2 = c .before .before .before .before in
+    let at-fill-block = fill-block2 .before .before .before .before .before in
+    let even-half = at-fill-block .before .before .before .before .before .before in
+    let start = even-half .before .before in
+    let next =
+    c-call (start .pre .1 .0) (start .pre .1 .1) (even-half .even-half .ensures) (fill-block2 .fill-block2 .last .0)
+    (fill-block2 .fill-block2 .kept .0 ∙ at-fill-block .fill-block .kept .0) (c .part-c .result) (c .part-c .ensures) in
+    (subst (λ (m : ℕ). 3 * (c .part-c .result .a * c .part-c .result .b) + 2 < m) (start .pre .0) (next .0), next .1)
 
 fill-u-cut-add-result-3 : (t : ℕ) → fill-u-cut-lts.Need-add-result-3 (fill-u-cut-calls t) (fill-u-cut-at t) fill-u-cut.Post
 fill-u-cut-add-result-3 t c =
+    let fill-block3 = c .before .before in
+    let part-c = fill-block3 .before in
+    let fill-block2 = part-c .before .before .before .before in
+    let part-b = fill-block2 .before in
+    let at-fill-block = part-b .before .before .before .before in
+    let part-a = at-fill-block .before in
+    let even-half = part-a .before .before .before .before .before in
+    let start = even-half .before .before in
     let all =
-    u-fits (c .before .before .before .before .before .before .before .before .before .before .before .before .before .before .before .before .before .before .before .before .pre .1 .0) (c .before .before .before .before .before .before .before .before .before .before .before .before .before .before .before .before .before .before .before .before .pre .1 .1)
-    (c .before .before .before .before .before .before .before .before .before .before .before .before .fill-block .ensures .1 ∙ ap (λ j. length (blocks j)) (c .before .before .before .before .before .before .before .before .before .before .before .before .before .part-a .ensures))
-    (c .before .before .before .before .before .before .before .fill-block2 .ensures .1 ∙ ap (λ j. length (blocks j)) (c .before .before .before .before .before .before .before .before .part-b .ensures))
-    (c .before .before .fill-block3 .ensures .1 ∙ ap (λ j. length (blocks j)) (c .before .before .before .part-c .ensures)) in
+    u-fits (start .pre .1 .0) (start .pre .1 .1) (at-fill-block .fill-block .ensures .1 ∙ ap (λ j. length (blocks j)) (part-a .part-a .ensures))
+    (fill-block2 .fill-block2 .ensures .1 ∙ ap (λ j. length (blocks j)) (part-b .part-b .ensures))
+    (fill-block3 .fill-block3 .ensures .1 ∙ ap (λ j. length (blocks j)) (part-c .part-c .ensures)) in
     record { fits = omega arith }
 
 fill-u-cut-add-result-2 : (t : ℕ) → fill-u-cut-lts.Need-add-result-2 (fill-u-cut-calls t) (fill-u-cut-at t) fill-u-cut.Post
@@ -289,24 +420,42 @@ fill-u-cut-add-result : (t : ℕ) → fill-u-cut-lts.Need-add-result (fill-u-cut
 fill-u-cut-add-result t c = record { fits = let all = fill-u-cut-add-result-3 t c .fits in omega arith }
 
 fill-u-cut-same-length : (t : ℕ) → fill-u-cut-lts.Need-same-length (fill-u-cut-calls t) (fill-u-cut-at t) fill-u-cut.Post
-fill-u-cut-same-length t c = c .before .before .fill-block3 .kept .0 ∙ c .before .before .before .before .before .before .before .fill-block2 .kept .0 ∙ c .before .before .before .before .before .before .before .before .before .before .before .before .fill-block .kept .0
+fill-u-cut-same-length t c =
+    let fill-block3 = c .before .before in
+    let fill-block2 = fill-block3 .before .before .before .before .before in
+    fill-block3 .fill-block3 .kept .0 ∙ fill-block2 .fill-block2 .kept .0 ∙ fill-block2 .before .before .before .before .before .fill-block .kept .0
 
 fill-u-cut-returns : (t : ℕ) → fill-u-cut-lts.Need-returns (fill-u-cut-calls t) (fill-u-cut-at t) fill-u-cut.Post
-fill-u-cut-returns t c = let by-square = c .before .before .before .before .before .before .before .before .before .before .before .before .before .before .before .before .before .before .before .before .args .by-square in
-    let w = c .before .before .before .before .before .before .before .before .before .before .before .before .before .before .before .before .before .before .before .before .args .area .w in
-    let at = c .before .before .before .before .before .before .before .before .before .before .before .before .before .before .before .before .before .before .before .before .args .at in
-    let k = c .before .before .before .before .before .before .before .before .before .before .before .before .before .before .before .before .before .before .before .before .args .k in
-    let e = c .before .before .before .before .before .before .before .before .before .before .before .before .before .before .before .before .before .before .even-half .result in
-    let a = c .before .before .before .before .before .before .before .before .before .before .before .before .before .part-a .ensures in
-    let b = c .before .before .before .before .before .before .before .before .part-b .ensures in
-    let d = c .before .before .before .part-c .ensures in (
-      c .before .before .fill-block3 .ensures .0
+fill-u-cut-returns t c =
+    let fill-block3 = c .before .before in
+    let part-c = fill-block3 .before in
+    let fill-block2 = part-c .before .before .before .before in
+    let part-b = fill-block2 .before in
+    let at-fill-block = part-b .before .before .before .before in
+    let part-a = at-fill-block .before in
+    let even-half = part-a .before .before .before .before .before in
+    let start = even-half .before .before in
+    let room = start .pre .1 .0 in
+    let cut = start .pre .1 .1 in
+    let table = start .args .table .now in
+    let by-square = start .args .by-square in
+    let w = start .args .area .w in
+    let at = start .args .at in
+    let k = start .args .k in
+    let e = even-half .even-half .result in
+    let a = part-a .part-a .ensures in
+    let b = part-b .part-b .ensures in
+    let d = part-c .part-c .ensures in (
+      fill-block3 .fill-block3 .ensures .0
           ∙ ap₂ (λ t j. filled-with by-square w t j (at + e * (k .a / 2) + k .a * (k .b - e)))
-          (c .before .before .before .before .before .before .before .fill-block2 .ensures .0
-          ∙ ap₂ (λ t j. filled-with by-square w t j (at + e * (k .a / 2))) (c .before .before .before .before .before .before .before .before .before .before .before .before .fill-block .ensures .0 ∙ ap (λ j. filled-with by-square w (c .before .before .before .before .before .before .before .before .before .before .before .before .before .before .before .before .before .before .before .before .args .table .now) j at) a) b) d
-          ∙ u-over (c .before .before .before .before .before .before .before .before .before .before .before .before .before .before .before .before .before .before .before .before .pre .1 .0) (c .before .before .before .before .before .before .before .before .before .before .before .before .before .before .before .before .before .before .before .before .pre .1 .1) (c .before .before .before .before .before .before .before .before .before .before .before .before .before .before .before .before .before .before .even-half .ensures) (enter-one by-square) (c .before .before .before .before .before .before .before .before .before .before .before .before .before .before .before .before .before .before .before .before .args .table .now),
-      u-count (c .before .before .before .before .before .before .before .before .before .before .before .before .before .before .before .before .before .before .before .before .pre .1 .0) (c .before .before .before .before .before .before .before .before .before .before .before .before .before .before .before .before .before .before .before .before .pre .1 .1)
-          (c .before .before .before .before .before .before .before .before .before .before .before .before .fill-block .ensures .1 ∙ ap (λ j. length (blocks j)) a) (c .before .before .before .before .before .before .before .fill-block2 .ensures .1 ∙ ap (λ j. length (blocks j)) b) (c .before .before .fill-block3 .ensures .1 ∙ ap (λ j. length (blocks j)) d),
+          (fill-block2 .fill-block2 .ensures .0
+          ∙ ap₂ (λ t j. filled-with by-square w t j (at + e * (k .a / 2)))
+          (at-fill-block .fill-block .ensures .0 ∙ ap (λ j. filled-with by-square w table j at) a)
+          b)
+          d
+          ∙ u-over room cut (even-half .even-half .ensures) (enter-one by-square) table,
+      u-count room cut (at-fill-block .fill-block .ensures .1 ∙ ap (λ j. length (blocks j)) a)
+          (fill-block2 .fill-block2 .ensures .1 ∙ ap (λ j. length (blocks j)) b) (fill-block3 .fill-block3 .ensures .1 ∙ ap (λ j. length (blocks j)) d),
     )
 
 pub +fill-block+fill-choice+fill-long-cut+fill-u-cut-spec : {M : Type 1} → statement M
