@@ -103,7 +103,8 @@ module _ (line : List ℕ) (short : length line < none) where
       (is, rw (is, le-ltb at (length line) (omega arith)) refl)
 
   -- a field within the line is its last one, or the next begins after a space
-  last : (at : ℕ) → at ≤ length line → ltb (field-at line at .end) (length line) ≡ false → (field-at line at .end ≡ length line) × (field-at line at .next ≡ none)
+  last : (at : ℕ) → at ≤ length line → ltb (field-at line at .end) (length line) ≡ false →
+      (field-at line at .end ≡ length line) × (field-at line at .next ≡ none)
   unfolding field-at
   last at l e =
       let most = inside at l in
@@ -179,13 +180,15 @@ module _ (line : List ℕ) (short : length line < none) where
       too-many e =
           let is = more (b .next) e in
           neither not-b (λ z. let less = is .0 in omega arith)
-          ∙ sym (ap shaped (third-is ∙ ap (λ ws. piece line a ∷ piece line b ∷ piece line c ∷ ws) (from-here (c .next) (let end = is .0 in let next = is .1 in omega arith))))
+          ∙ sym (ap shaped (third-is
+          ∙ ap (λ ws. piece line a ∷ piece line b ∷ piece line c ∷ ws) (from-here (c .next) (let end = is .0 in let next = is .1 in omega arith))))
 
   shape-read : three-read line ≡ shaped (fields line)
   unfolding three-read
   shape-read = by-a (ltb (a .end) (length line)) refl
     where
-      by-c : (p : ltb (a .end) (length line) ≡ true) (q : ltb (b .end) (length line) ≡ true) (t : Bool) → ltb (c .end) (length line) ≡ t → made-of-three line a b c ≡ shaped (fields line)
+      by-c : (p : ltb (a .end) (length line) ≡ true) (q : ltb (b .end) (length line) ≡ true) (t : Bool) → ltb (c .end) (length line) ≡ t →
+          made-of-three line a b c ≡ shaped (fields line)
       by-c p q true e = too-many p q e
       by-c p q false e = all-read p q e
 

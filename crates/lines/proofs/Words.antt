@@ -32,7 +32,8 @@ field-is : (line : List ℕ) (at end : ℕ) → end ≡ field-at line at .end �
 unfolding field-at
 field-is line at end e = ap (field-to line at) e
 
-pub one-more : (line : List ℕ) (at end : ℕ) → end ≡ field-at line at .end → end < length line → record { start = at; end = end; next = end + 1 } ≡ field-at line at
+pub one-more :
+    (line : List ℕ) (at end : ℕ) → end ≡ field-at line at .end → end < length line → record { start = at; end = end; next = end + 1 } ≡ field-at line at
 one-more line at end e l = sym (rw (lt-ltb end (length line) l)) ∙ field-is line at end e
 
 pub no-more : (line : List ℕ) (at end : ℕ) → end ≡ field-at line at .end → length line ≤ end → record { start = at; end = end; next = none } ≡ field-at line at

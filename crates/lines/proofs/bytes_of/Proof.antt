@@ -21,7 +21,10 @@ slice-aggregate-result-2 c = search needs
 
 returns-2 : tie.Need-returns-2
 unfolding piece
-returns-2 c = sym (rw (lt-leb (c .before .before .before .args .f .end) (length (c .before .before .before .args .line .now)) (c .before .if2 .taken)) (rw (and-false (leb (c .before .before .before .args .f .start) (c .before .before .before .args .f .end)))))
+returns-2 c =
+    let start = c .before .before .before in
+    let f = start .args .f in
+    sym (rw (lt-leb (f .end) (length (start .args .line .now)) (c .before .if2 .taken)) (rw (and-false (leb (f .start) (f .end)))))
 
 part-result-start : tie.Need-part-result-start
 part-result-start c = search needs
@@ -31,7 +34,11 @@ part-result-end c = search needs
 
 returns-3 : tie.Need-returns-3
 unfolding piece
-returns-3 c = sym (rw (le-leb (c .before .before .before .args .f .start) (c .before .before .before .args .f .end) (c .before .before .if1 .left), le-leb (c .before .before .before .args .f .end) (length (c .before .before .before .args .line .now)) (c .before .if2 .left)))
+returns-3 c =
+    let first-test = c .before .before in
+    let start = first-test .before in
+    let f = start .args .f in
+    sym (rw (le-leb (f .start) (f .end) (first-test .if1 .left), le-leb (f .end) (length (start .args .line .now)) (c .before .if2 .left)))
 
 pub bytes-of-spec : {M : Type 1} → statement M
 bytes-of-spec =

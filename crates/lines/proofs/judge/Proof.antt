@@ -19,7 +19,13 @@ two-fields-requires c κs = search needs
 
 returns : tie.Need-returns
 unfolding made-of-three
-returns c = c .two-fields .ensures ∙ ap₂ two-fields (c .before .before .bytes-of .ensures) (c .before .bytes-of2 .ensures) ∙ sym (rw (eq-eqb (c .before .before .before .before .before .before .args .b .end) (length (c .before .before .before .before .before .before .args .line .now)) (c .before .before .before .if1 .taken)))
+returns c =
+    let bytes-of = c .before .before in
+    let first-test = bytes-of .before in
+    let start = first-test .before .before .before in
+    c .two-fields .ensures
+    ∙ ap₂ two-fields (bytes-of .bytes-of .ensures) (c .before .bytes-of2 .ensures)
+    ∙ sym (rw (eq-eqb (start .args .b .end) (length (start .args .line .now)) (first-test .if1 .taken)))
 
 bytes-of-requires-3 : tie.Need-bytes-of-requires-3
 bytes-of-requires-3 c κs = search needs
@@ -35,11 +41,24 @@ three-fields-requires c κs = search needs
 
 returns-2 : tie.Need-returns-2
 unfolding made-of-three
-returns-2 c = c .three-fields .ensures ∙ (λ i. three-fields (c .before .before .before .bytes-of3 .ensures i) (c .before .before .bytes-of4 .ensures i) (c .before .bytes-of5 .ensures i)) ∙ sym (rw (ne-eqb (c .before .before .before .before .before .before .before .before .before .args .b .end) (length (c .before .before .before .before .before .before .before .before .before .args .line .now)) (c .before .before .before .before .before .before .if1 .left), eq-eqb (c .before .before .before .before .before .before .before .before .before .args .c .end) (length (c .before .before .before .before .before .before .before .before .before .args .line .now)) (c .before .before .before .before .if2 .taken)))
+returns-2 c =
+    let bytes-of4 = c .before .before in
+    let bytes-of3 = bytes-of4 .before in
+    let second-test = bytes-of3 .before in
+    let first-test = second-test .before .before in
+    let start = first-test .before .before .before in
+    let line = start .args .line .now in
+    c .three-fields .ensures
+    ∙ (λ i. three-fields (bytes-of3 .bytes-of3 .ensures i) (bytes-of4 .bytes-of4 .ensures i) (c .before .bytes-of5 .ensures i))
+    ∙ sym (rw (ne-eqb (start .args .b .end) (length line) (first-test .if1 .left), eq-eqb (start .args .c .end) (length line) (second-test .if2 .taken)))
 
 returns-3 : tie.Need-returns-3
 unfolding made-of-three
-returns-3 c = sym (rw (ne-eqb (c .before .before .before .before .before .args .b .end) (length (c .before .before .before .before .before .args .line .now)) (c .before .before .if1 .left), ne-eqb (c .before .before .before .before .before .args .c .end) (length (c .before .before .before .before .before .args .line .now)) (c .if2 .left)))
+returns-3 c =
+    let first-test = c .before .before in
+    let start = first-test .before .before .before in
+    let line = start .args .line .now in
+    sym (rw (ne-eqb (start .args .b .end) (length line) (first-test .if1 .left), ne-eqb (start .args .c .end) (length line) (c .if2 .left)))
 
 pub judge-spec : {M : Type 1} → statement M
 judge-spec =

@@ -1,5 +1,5 @@
--- `lines::read` meets its contract: a walk of its MIR, by hand. A reader is made over the line, and takes three fields, each after the one before; `judge` is called on the line and the three. All that the proof knows of `over`, `taken`, `behind` and `judge` is that each meets its contract.
--- Each contract says its whole result, so each result is written as the record that it is. A reader is Copy: what it owns is had twice where it is passed and used again. A field owns only facts, which are made anew for each call. In a local of a body MIR erases the lifetime of the reader's type: what a reader owns does not say the lifetime's name.
+-- `lines::read` meets its contract: a walk of its MIR, by hand. Each callee's contract says its whole result, so each result is written as the record that it
+-- is. A reader is Copy: what it owns is had twice where it is used again. A field owns only facts, made anew for each call.
 use mathlib.Core.Path.{_≡_, refl, _∙_}
 use Prim.Native.Nat.{ℕ}
 use mathlib.Core.List.{List, [], _∷_}
@@ -17,8 +17,10 @@ use ghost.Atoms.{Atoms, sem}
 use contract.Lifetimes.{Lfts}
 use contract.Monad.{Fun, fact}
 use contract.Running.{givenOf, tables, tablesOf}
-use types.Kit.{Given, ‵, raw, _⊛_, ⋆, some, later, _$_, _∵_, !, qed, by, move, use1, use2, split, join, pick, rewrite, fsplit, fjoin, suffices, frame, await, done}
-use types.Run.{look, init, forget, stop, from, load, of-opd, and-then, no-more, assigns, land, returns, enter, alloc1, alloc0, params1, pass1, pass0, free1, free0}
+use types.Kit.{Given, ‵, raw, _⊛_, ⋆, some, later, _$_, _∵_, !, qed, by, move, use1, use2, split, join, pick, rewrite, fsplit, fjoin, suffices, frame, await}
+use types.Kit.{done}
+use types.Run.{look, init, forget, stop, from, load, of-opd, and-then, no-more, assigns, land, returns, enter, alloc1, alloc0, params1, pass1, pass0, free1}
+use types.Run.{free0}
 use sound.WpLaws.{FmC, fmOf, WpFn-mono}
 use denote.RattleType.{RattleType, owns}
 use denote.Laws.{Is, shows}
@@ -103,7 +105,8 @@ module _ {M : Type 1} (𝓤 : URA M) (H : Heap 𝓤) (A : Atoms 𝓤) (mem : Mem
   abbrev Judge : Contract 𝓤
   Judge = tripleOf 𝓤 H A judge.signature (judge.spec 𝓤 H A mem run)
 
-module _ {M : Type 1} (𝓤 : URA M) (H : Heap 𝓤) (A : Atoms 𝓤) (W : Given 𝓤 H A) (mem : Memory → SProp 𝓤) (run : Routine → Fun 𝓤) (κ : Lft) (q : Share) (s : RefT (List ℕ)) where
+module _ {M : Type 1} (𝓤 : URA M) (H : Heap 𝓤) (A : Atoms 𝓤) (W : Given 𝓤 H A) (mem : Memory → SProp 𝓤) (run : Routine → Fun 𝓤) (κ : Lft) (q : Share)
+    (s : RefT (List ℕ)) where
   -- the machine value that s has
   abbrev v : Val
   v = sliceVal (s .ptr) (length (s .now))
@@ -158,7 +161,9 @@ module _ {M : Type 1} (𝓤 : URA M) (H : Heap 𝓤) (A : Atoms 𝓤) (W : Given
   goes-over =
       qed W ((‵ (flft κ q) ⊛ ‵ ftrue) ∷ ‵ (owns (ShrSlice (named 0) κ u8 ∷ []) (s, tt) (v ∷ [], tt)) ∷ []) ∵
       move ! (1 ∷ []) $ fsplit ! $ use1 W (‵ Own ⊛ ‵ Own) (shr-slice-copy 𝓤 H A W (named 0) κ u8 .twice s (v ∷ [])) $ split ! $
-      move ! (0 ∷ 2 ∷ []) $ fjoin ! $ move ! (2 ∷ 0 ∷ []) $ use2 W (raw (Over 𝓤 H A mem run .pre to-over)) (qed W ((‵ (flft κ q) ⊛ ‵ ftrue) ∷ ‵ (owns (ShrSlice (named 0) κ u8 ∷ []) (s, tt) (v ∷ [], tt)) ∷ []) ∵ join ! $ frame ! $ done !) $ frame ! $ done !
+      move ! (0 ∷ 2 ∷ []) $ fjoin ! $ move ! (2 ∷ 0 ∷ []) $
+      use2 W (raw (Over 𝓤 H A mem run .pre to-over))
+      (qed W ((‵ (flft κ q) ⊛ ‵ ftrue) ∷ ‵ (owns (ShrSlice (named 0) κ u8 ∷ []) (s, tt) (v ∷ [], tt)) ∷ []) ∵ join ! $ frame ! $ done !) $ frame ! $ done !
 
   over-said : (r : Reader) → ent 𝓤 (ensured 𝓤 H A over.ended (over.clauses 𝓤 H A mem run) (κ, tt) (s, tt) tt r) (fact 𝓤 ((r .line ≡ s) × (r .at ≡ 0)))
   over-said r = exE 𝓤 _ (λ ws. snd∗ 𝓤 (sem 𝓤 H A (lasts over.ended (κ, tt) (s, tt) ws)) (fact 𝓤 ((r .line ≡ s) × (r .at ≡ 0))))
@@ -168,21 +173,26 @@ module _ {M : Type 1} (𝓤 : URA M) (H : Heap 𝓤) (A : Atoms 𝓤) (W : Given
   to-taken r u = (((κ, tt), (q, tt), tt, (r, tt), (u ∷ [], tt)), tt)
 
   goes-taken : (r : Reader) (u : Val) → ent 𝓤 (⋆ 𝓤 H A (‵ (OwnR r u) ∷ (‵ (flft κ q) ⊛ ‵ ftrue) ∷ [])) (Taken 𝓤 H A mem run .pre (to-taken r u))
-  goes-taken r u = qed W (‵ (OwnR r u) ∷ (‵ (flft κ q) ⊛ ‵ ftrue) ∷ []) ∵ nothing ! $ move ! (1 ∷ 0 ∷ []) $ fjoin ! $ move ! (1 ∷ 0 ∷ []) $ join ! $ frame ! $ done !
+  goes-taken r u = qed W (‵ (OwnR r u) ∷ (‵ (flft κ q) ⊛ ‵ ftrue) ∷ []) ∵ nothing ! $ move ! (1 ∷ 0 ∷ []) $ fjoin ! $ move ! (1 ∷ 0 ∷ []) $ join ! $ frame ! $
+      done !
 
-  taken-said : (r : Reader) (f : Field) → ent 𝓤 (ensured 𝓤 H A taken.ended (taken.clauses 𝓤 H A mem run) (κ, tt) (r, tt) tt f) (fact 𝓤 (f ≡ field-at (now (r .line)) (r .at)))
+  taken-said : (r : Reader) (f : Field) →
+      ent 𝓤 (ensured 𝓤 H A taken.ended (taken.clauses 𝓤 H A mem run) (κ, tt) (r, tt) tt f) (fact 𝓤 (f ≡ field-at (now (r .line)) (r .at)))
   taken-said r f = exE 𝓤 _ (λ ws. snd∗ 𝓤 (sem 𝓤 H A (lasts taken.ended (κ, tt) (r, tt) ws)) (fact 𝓤 (f ≡ field-at (now (r .line)) (r .at))))
 
   -- a call of `behind`, at the reader r and the field f with the machine values u and x
   abbrev to-behind : Reader → Val → Field → Val → Behind 𝓤 H A mem run .Ghost
   to-behind r u f x = (((κ, tt), (q, tt), tt, (r, (f, tt)), (u ∷ [], (x ∷ [], tt))), tt)
 
-  goes-behind : (r : Reader) (u : Val) (f : Field) (x : Val) → Is S.the-row f (x ∷ []) → ent 𝓤 (⋆ 𝓤 H A (‵ (OwnR r u) ∷ (‵ (flft κ q) ⊛ ‵ ftrue) ∷ [])) (Behind 𝓤 H A mem run .pre (to-behind r u f x))
+  goes-behind : (r : Reader) (u : Val) (f : Field) (x : Val) → Is S.the-row f (x ∷ []) →
+      ent 𝓤 (⋆ 𝓤 H A (‵ (OwnR r u) ∷ (‵ (flft κ q) ⊛ ‵ ftrue) ∷ [])) (Behind 𝓤 H A mem run .pre (to-behind r u f x))
   goes-behind r u f x is =
-      qed W (‵ (OwnR r u) ∷ (‵ (flft κ q) ⊛ ‵ ftrue) ∷ []) ∵ nothing ! $ owned ! S.the-row (Is S.the-row) (LL.makes S.the-type S′.the-plain 𝓤 H A) f (x ∷ []) is $ fjoin ! $
+      qed W (‵ (OwnR r u) ∷ (‵ (flft κ q) ⊛ ‵ ftrue) ∷ []) ∵ nothing ! $
+      owned ! S.the-row (Is S.the-row) (LL.makes S.the-type S′.the-plain 𝓤 H A) f (x ∷ []) is $ fjoin ! $
       move ! (1 ∷ 0 ∷ []) $ fjoin ! $ move ! (1 ∷ 0 ∷ []) $ join ! $ frame ! $ done !
 
-  behind-said : (r : Reader) (f : Field) (t : Reader) → ent 𝓤 (ensured 𝓤 H A behind.ended (behind.clauses 𝓤 H A mem run) (κ, tt) (r, (f, tt)) tt t) (fact 𝓤 ((t .line ≡ r .line) × (t .at ≡ f .next)))
+  behind-said : (r : Reader) (f : Field) (t : Reader) →
+      ent 𝓤 (ensured 𝓤 H A behind.ended (behind.clauses 𝓤 H A mem run) (κ, tt) (r, (f, tt)) tt t) (fact 𝓤 ((t .line ≡ r .line) × (t .at ≡ f .next)))
   behind-said r f t = exE 𝓤 _ (λ ws. snd∗ 𝓤 (sem 𝓤 H A (lasts behind.ended (κ, tt) (r, (f, tt)) ws)) (fact 𝓤 ((t .line ≡ r .line) × (t .at ≡ f .next))))
 
   -- the call of `judge`, at the fields' machine values x, y and z
@@ -192,96 +202,145 @@ module _ {M : Type 1} (𝓤 : URA M) (H : Heap 𝓤) (A : Atoms 𝓤) (W : Given
   goes-judge : (x y z : Val) → Is S.the-row a (x ∷ []) → Is S.the-row b (y ∷ []) → Is S.the-row c (z ∷ [])
       → ent 𝓤 (⋆ 𝓤 H A ((‵ (flft κ q) ⊛ ‵ ftrue) ∷ ‵ Own ∷ [])) (sep 𝓤 (Judge 𝓤 H A mem run .pre (to-judge x y z)) (sem 𝓤 H A Own))
   goes-judge x y z is-a is-b is-c =
-      qed W ((‵ (flft κ q) ⊛ ‵ ftrue) ∷ ‵ Own ∷ []) ∵ move ! (1 ∷ []) $ use1 W (‵ Own ⊛ ‵ Own) (shr-slice-copy 𝓤 H A W (named 0) κ u8 .twice s (v ∷ [])) $ split ! $ nothing ! $
-      owned ! S.the-row (Is S.the-row) (LL.makes S.the-type S′.the-plain 𝓤 H A) c (z ∷ []) is-c $ fjoin ! $ owned ! S.the-row (Is S.the-row) (LL.makes S.the-type S′.the-plain 𝓤 H A) b (y ∷ []) is-b $ fjoin ! $
+      qed W ((‵ (flft κ q) ⊛ ‵ ftrue) ∷ ‵ Own ∷ []) ∵ move ! (1 ∷ []) $ use1 W (‵ Own ⊛ ‵ Own) (shr-slice-copy 𝓤 H A W (named 0) κ u8 .twice s (v ∷ [])) $
+      split ! $ nothing ! $
+      owned ! S.the-row (Is S.the-row) (LL.makes S.the-type S′.the-plain 𝓤 H A) c (z ∷ []) is-c $ fjoin ! $
+      owned ! S.the-row (Is S.the-row) (LL.makes S.the-type S′.the-plain 𝓤 H A) b (y ∷ []) is-b $ fjoin ! $
       owned ! S.the-row (Is S.the-row) (LL.makes S.the-type S′.the-plain 𝓤 H A) a (x ∷ []) is-a $ fjoin ! $ move ! (1 ∷ 0 ∷ []) $ fjoin ! $
       -- [what is passed; what s owns; the token]
-      move ! (2 ∷ 0 ∷ []) $ use2 W (raw (Judge 𝓤 H A mem run .pre (to-judge x y z))) (qed W ((‵ (flft κ q) ⊛ ‵ ftrue) ∷ ‵ (owns (ShrSlice (named 0) κ u8 ∷ S.the-row ∷ S.the-row ∷ S.the-row ∷ []) (s, (a, (b, (c, tt)))) (v ∷ [], (x ∷ [], (y ∷ [], (z ∷ [], tt))))) ∷ []) ∵ join ! $ frame ! $ done !) $ frame ! $ done !
+      move ! (2 ∷ 0 ∷ []) $
+      use2 W (raw (Judge 𝓤 H A mem run .pre (to-judge x y z)))
+      (qed W ((‵ (flft κ q) ⊛ ‵ ftrue) ∷ ‵
+      (owns (ShrSlice (named 0) κ u8 ∷ S.the-row ∷ S.the-row ∷ S.the-row ∷ []) (s, (a, (b, (c, tt)))) (v ∷ [], (x ∷ [], (y ∷ [], (z ∷ [], tt))))) ∷ []) ∵
+      join ! $ frame ! $ done !) $ frame ! $ done !
 
-  judge-said : (t : Request) → ent 𝓤 (ensured 𝓤 H A judge.ended (judge.clauses 𝓤 H A mem run) (κ, tt) (s, (a, (b, (c, tt)))) tt t) (fact 𝓤 (t ≡ made-of-three (now s) a b c))
+  judge-said : (t : Request) →
+      ent 𝓤 (ensured 𝓤 H A judge.ended (judge.clauses 𝓤 H A mem run) (κ, tt) (s, (a, (b, (c, tt)))) tt t) (fact 𝓤 (t ≡ made-of-three (now s) a b c))
   judge-said t = exE 𝓤 _ (λ ws. snd∗ 𝓤 (sem 𝓤 H A (lasts judge.ended (κ, tt) (s, (a, (b, (c, tt)))) ws)) (fact 𝓤 (t ≡ made-of-three (now s) a b c)))
 
-  exits : (t : Request) (u : Val) → t ≡ made-of-three (now s) a b c → ent 𝓤 (⋆ 𝓤 H A (‵ (Q.the-row .own t (u ∷ [])) ∷ (‵ (flft κ q) ⊛ ‵ ftrue) ∷ ‵ Own ∷ [])) (Post u)
+  exits : (t : Request) (u : Val) → t ≡ made-of-three (now s) a b c →
+      ent 𝓤 (⋆ 𝓤 H A (‵ (Q.the-row .own t (u ∷ [])) ∷ (‵ (flft κ q) ⊛ ‵ ftrue) ∷ ‵ Own ∷ [])) (Post u)
   exits t u e =
       qed W (‵ (Q.the-row .own t (u ∷ [])) ∷ (‵ (flft κ q) ⊛ ‵ ftrue) ∷ ‵ Own ∷ []) ∵
-      suffices ! _ (ends-at 𝓤 H A read.ended stayed (read.clauses 𝓤 H A mem run) W (((κ, tt), (q, tt), tt, (s, tt), (v ∷ [], tt)), tt) u t (tt, tt) (tt, tt)) $ says ! (e ∙ is-three-read (now s)) $
+      suffices ! _ (ends-at 𝓤 H A read.ended stayed (read.clauses 𝓤 H A mem run) W (((κ, tt), (q, tt), tt, (s, tt), (v ∷ [], tt)), tt) u t (tt, tt) (tt, tt)) $
+      says ! (e ∙ is-three-read (now s)) $
       move ! (1 ∷ []) $ frame ! $ nothing ! $ move ! (2 ∷ 0 ∷ []) $ fjoin ! $ frame ! $ done !
 
-  module _ (C : Calls 𝓤 H) (Λ : Loops 𝓤 H) (fm : FmC 𝓤 H (W .laws) C) (known-over : Triple 𝓤 (C #lines·over) (Over 𝓤 H A mem run)) (known-taken : Triple 𝓤 (C #lines·taken) (Taken 𝓤 H A mem run)) (known-behind : Triple 𝓤 (C #lines·behind) (Behind 𝓤 H A mem run)) (known-judge : Triple 𝓤 (C #lines·judge) (Judge 𝓤 H A mem run)) where
-    walk : Is (ShrSlice (named 0) κ u8) s (v ∷ []) → ent 𝓤 (onEntry 𝓤 H A read.signature (κ, tt) (q, tt) (s, tt) (v ∷ [], tt)) (WpFn 𝓤 H C Λ code.function (v ∷ []) Post)
+  module _ (C : Calls 𝓤 H) (Λ : Loops 𝓤 H) (fm : FmC 𝓤 H (W .laws) C) (known-over : Triple 𝓤 (C #lines·over) (Over 𝓤 H A mem run))
+      (known-taken : Triple 𝓤 (C #lines·taken) (Taken 𝓤 H A mem run)) (known-behind : Triple 𝓤 (C #lines·behind) (Behind 𝓤 H A mem run))
+      (known-judge : Triple 𝓤 (C #lines·judge) (Judge 𝓤 H A mem run)) where
+    walk : Is (ShrSlice (named 0) κ u8) s (v ∷ []) →
+        ent 𝓤 (onEntry 𝓤 H A read.signature (κ, tt) (q, tt) (s, tt) (v ∷ [], tt)) (WpFn 𝓤 H C Λ code.function (v ∷ []) Post)
     walk p =
         qed W (raw (onEntry 𝓤 H A read.signature (κ, tt) (q, tt) (s, tt) (v ∷ [], tt)) ∷ []) ∵ enter ! C Λ code.function (v ∷ []) _ $
-        alloc1 ! (λ l₀. alloc1 ! (λ l₁. alloc1 ! (λ l₂. alloc1 ! (λ l₃. alloc1 ! (λ l₄. alloc1 ! (λ l₅. alloc1 ! (λ l₆. alloc1 ! (λ l₇. alloc1 ! (λ l₈. alloc1 ! (λ l₉. alloc1 ! (λ l₁₀. alloc1 ! (λ l₁₁. alloc1 ! (λ l₁₂. alloc0 ! $ params1 ! $
+        alloc1 ! (λ l₀. alloc1 ! (λ l₁. alloc1 ! (λ l₂. alloc1 ! (λ l₃. alloc1 ! (λ l₄. alloc1 ! (λ l₅. alloc1 ! (λ l₆. alloc1 ! (λ l₇. alloc1 ! (λ l₈.
+        alloc1 ! (λ l₉. alloc1 ! (λ l₁₀. alloc1 ! (λ l₁₁. alloc1 ! (λ l₁₂. alloc0 ! $ params1 ! $
         pass1 ! (init ! 22 refl (shr-slice-lawful 𝓤 H A W (named 0) κ u8 .typed s (v ∷ []) p .0)) $ pass0 ! $
         -- [_12; …; _11; …; and so on down to _1; …; room for _0; …; what the entry has]
         -- `over`
         move ! (26 ∷ []) $ use1 W (raw (Over 𝓤 H A mem run .pre to-over) ⊛ ‵ Own) goes-over $ split ! $
         calls-at ! fm (Over 𝓤 H A mem run) known-over to-over (and-then ! (load ! (from ! (stop !)) (look ! 24 refl)) (no-more !)) (λ u₁.
-        use1 W (later (some (λ (r : Reader). ((‵ (flft κ q) ⊛ ‵ ftrue) ⊛ ‵ (OwnR r u₁)) ⊛ raw (ensured 𝓤 H A over.ended (over.clauses 𝓤 H A mem run) (κ, tt) (s, tt) tt r)))) (id⊢ 𝓤 _) $ await ! tt $ pick ! (λ r.
+        use1 W (later (some (λ (r : Reader).
+        ((‵ (flft κ q) ⊛ ‵ ftrue) ⊛ ‵ (OwnR r u₁)) ⊛ raw (ensured 𝓤 H A over.ended (over.clauses 𝓤 H A mem run) (κ, tt) (s, tt) tt r)))) (id⊢ 𝓤 _) $
+        await ! tt $ pick ! (λ r.
         split ! $ move ! (1 ∷ []) $ use1 W (raw (fact 𝓤 ((r .line ≡ s) × (r .at ≡ 0)))) (over-said r) $ heard ! ((r .line ≡ s) × (r .at ≡ 0)) (λ e. split ! $
         rewrite ! 1 (λ (h : Reader). ‵ (OwnR h u₁)) (λ i. record { line = e .0 i; at = e .1 i }) refl $ move ! (1 ∷ []) $
         peeks ! (B (κ, tt)) (Is (B (κ, tt))) (shows 𝓤 H A (B (κ, tt))) at₁ (u₁ ∷ []) (λ is-u₁. land ! (from ! (stop !)) (init ! 23 refl (typed at₁ u₁ is-u₁)) $
         -- `taken`, of at₁. [what the reader owns; the token; what s owns; _12; …]
         assigns ! (of-opd ! (load ! (from ! (stop !)) (look ! 23 refl))) (from ! (stop !)) (init ! 11 refl (typed at₁ u₁ is-u₁)) $
-        use1 W (‵ (OwnR at₁ u₁) ⊛ ‵ (OwnR at₁ u₁)) (twice at₁ u₁) $ split ! $ move ! (0 ∷ 2 ∷ []) $ use2 W (raw (Taken 𝓤 H A mem run .pre (to-taken at₁ u₁))) (goes-taken at₁ u₁) $
+        use1 W (‵ (OwnR at₁ u₁) ⊛ ‵ (OwnR at₁ u₁)) (twice at₁ u₁) $ split ! $ move ! (0 ∷ 2 ∷ []) $
+        use2 W (raw (Taken 𝓤 H A mem run .pre (to-taken at₁ u₁))) (goes-taken at₁ u₁) $
         calls-at ! fm (Taken 𝓤 H A mem run) known-taken (to-taken at₁ u₁) (and-then ! (load ! (from ! (stop !)) (look ! 11 refl)) (no-more !)) (λ x.
-        use1 W (later (some (λ (f : Field). ((‵ (flft κ q) ⊛ ‵ ftrue) ⊛ ‵ (S.the-row .own f (x ∷ []))) ⊛ raw (ensured 𝓤 H A taken.ended (taken.clauses 𝓤 H A mem run) (κ, tt) (at₁, tt) tt f)))) (id⊢ 𝓤 _) $ await ! tt $ pick ! (λ f.
+        use1 W (later (some (λ (f : Field).
+        ((‵ (flft κ q) ⊛ ‵ ftrue) ⊛ ‵ (S.the-row .own f (x ∷ []))) ⊛ raw (ensured 𝓤 H A taken.ended (taken.clauses 𝓤 H A mem run) (κ, tt) (at₁, tt) tt f))))
+        (id⊢ 𝓤 _) $ await ! tt $ pick ! (λ f.
         split ! $ move ! (1 ∷ []) $ use1 W (raw (fact 𝓤 (f ≡ a))) (taken-said at₁ f) $ heard ! (f ≡ a) (λ e. split ! $
         rewrite ! 1 (λ (h : Field). ‵ (S.the-row .own h (x ∷ []))) e refl $ move ! (1 ∷ []) $
         facts ! S.the-row (Is S.the-row) (shows 𝓤 H A S.the-row) a (x ∷ []) (λ is-a. land ! (from ! (stop !)) (init ! 21 refl (typed-field a x is-a)) $
         -- `behind`, of at₁ and a. [the token; what the reader owns; what s owns; _12; …]
         assigns ! (of-opd ! (load ! (from ! (stop !)) (look ! 23 refl))) (from ! (stop !)) (init ! 9 refl (typed at₁ u₁ is-u₁)) $
         move ! (1 ∷ 0 ∷ []) $ use2 W (raw (Behind 𝓤 H A mem run .pre (to-behind at₁ u₁ a x))) (goes-behind at₁ u₁ a x is-a) $
-        calls-at ! fm (Behind 𝓤 H A mem run) known-behind (to-behind at₁ u₁ a x) (and-then ! (load ! (from ! (stop !)) (look ! 8 refl)) (and-then ! (load ! (from ! (stop !)) (look ! 20 refl)) (no-more !))) (λ u₂.
-        use1 W (later (some (λ (r : Reader). ((‵ (flft κ q) ⊛ ‵ ftrue) ⊛ ‵ (OwnR r u₂)) ⊛ raw (ensured 𝓤 H A behind.ended (behind.clauses 𝓤 H A mem run) (κ, tt) (at₁, (a, tt)) tt r)))) (id⊢ 𝓤 _) $ await ! tt $ pick ! (λ r.
-        split ! $ move ! (1 ∷ []) $ use1 W (raw (fact 𝓤 ((r .line ≡ s) × (r .at ≡ a .next)))) (behind-said at₁ a r) $ heard ! ((r .line ≡ s) × (r .at ≡ a .next)) (λ e. split ! $
+        calls-at ! fm (Behind 𝓤 H A mem run) known-behind (to-behind at₁ u₁ a x)
+        (and-then ! (load ! (from ! (stop !)) (look ! 8 refl)) (and-then ! (load ! (from ! (stop !)) (look ! 20 refl)) (no-more !))) (λ u₂.
+        use1 W (later (some (λ (r : Reader).
+        ((‵ (flft κ q) ⊛ ‵ ftrue) ⊛ ‵ (OwnR r u₂)) ⊛ raw (ensured 𝓤 H A behind.ended (behind.clauses 𝓤 H A mem run) (κ, tt) (at₁, (a, tt)) tt r)))) (id⊢ 𝓤 _) $
+        await ! tt $ pick ! (λ r.
+        split ! $ move ! (1 ∷ []) $ use1 W (raw (fact 𝓤 ((r .line ≡ s) × (r .at ≡ a .next)))) (behind-said at₁ a r) $
+        heard ! ((r .line ≡ s) × (r .at ≡ a .next)) (λ e. split ! $
         rewrite ! 1 (λ (h : Reader). ‵ (OwnR h u₂)) (λ i. record { line = e .0 i; at = e .1 i }) refl $ move ! (1 ∷ []) $
         peeks ! (B (κ, tt)) (Is (B (κ, tt))) (shows 𝓤 H A (B (κ, tt))) at₂ (u₂ ∷ []) (λ is-u₂. land ! (from ! (stop !)) (init ! 19 refl (typed at₂ u₂ is-u₂)) $
         -- `taken`, of at₂. [what the reader owns; the token; what s owns; _12; …]
         assigns ! (of-opd ! (load ! (from ! (stop !)) (look ! 19 refl))) (from ! (stop !)) (init ! 7 refl (typed at₂ u₂ is-u₂)) $
-        use1 W (‵ (OwnR at₂ u₂) ⊛ ‵ (OwnR at₂ u₂)) (twice at₂ u₂) $ split ! $ move ! (0 ∷ 2 ∷ []) $ use2 W (raw (Taken 𝓤 H A mem run .pre (to-taken at₂ u₂))) (goes-taken at₂ u₂) $
+        use1 W (‵ (OwnR at₂ u₂) ⊛ ‵ (OwnR at₂ u₂)) (twice at₂ u₂) $ split ! $ move ! (0 ∷ 2 ∷ []) $
+        use2 W (raw (Taken 𝓤 H A mem run .pre (to-taken at₂ u₂))) (goes-taken at₂ u₂) $
         calls-at ! fm (Taken 𝓤 H A mem run) known-taken (to-taken at₂ u₂) (and-then ! (load ! (from ! (stop !)) (look ! 7 refl)) (no-more !)) (λ y.
-        use1 W (later (some (λ (f : Field). ((‵ (flft κ q) ⊛ ‵ ftrue) ⊛ ‵ (S.the-row .own f (y ∷ []))) ⊛ raw (ensured 𝓤 H A taken.ended (taken.clauses 𝓤 H A mem run) (κ, tt) (at₂, tt) tt f)))) (id⊢ 𝓤 _) $ await ! tt $ pick ! (λ f.
+        use1 W (later (some (λ (f : Field).
+        ((‵ (flft κ q) ⊛ ‵ ftrue) ⊛ ‵ (S.the-row .own f (y ∷ []))) ⊛ raw (ensured 𝓤 H A taken.ended (taken.clauses 𝓤 H A mem run) (κ, tt) (at₂, tt) tt f))))
+        (id⊢ 𝓤 _) $ await ! tt $ pick ! (λ f.
         split ! $ move ! (1 ∷ []) $ use1 W (raw (fact 𝓤 (f ≡ b))) (taken-said at₂ f) $ heard ! (f ≡ b) (λ e. split ! $
         rewrite ! 1 (λ (h : Field). ‵ (S.the-row .own h (y ∷ []))) e refl $ move ! (1 ∷ []) $
         facts ! S.the-row (Is S.the-row) (shows 𝓤 H A S.the-row) b (y ∷ []) (λ is-b. land ! (from ! (stop !)) (init ! 17 refl (typed-field b y is-b)) $
         -- `behind`, of at₂ and b. [the token; what the reader owns; what s owns; _12; …]
         assigns ! (of-opd ! (load ! (from ! (stop !)) (look ! 19 refl))) (from ! (stop !)) (init ! 5 refl (typed at₂ u₂ is-u₂)) $
         move ! (1 ∷ 0 ∷ []) $ use2 W (raw (Behind 𝓤 H A mem run .pre (to-behind at₂ u₂ b y))) (goes-behind at₂ u₂ b y is-b) $
-        calls-at ! fm (Behind 𝓤 H A mem run) known-behind (to-behind at₂ u₂ b y) (and-then ! (load ! (from ! (stop !)) (look ! 4 refl)) (and-then ! (load ! (from ! (stop !)) (look ! 16 refl)) (no-more !))) (λ u₃.
-        use1 W (later (some (λ (r : Reader). ((‵ (flft κ q) ⊛ ‵ ftrue) ⊛ ‵ (OwnR r u₃)) ⊛ raw (ensured 𝓤 H A behind.ended (behind.clauses 𝓤 H A mem run) (κ, tt) (at₂, (b, tt)) tt r)))) (id⊢ 𝓤 _) $ await ! tt $ pick ! (λ r.
-        split ! $ move ! (1 ∷ []) $ use1 W (raw (fact 𝓤 ((r .line ≡ s) × (r .at ≡ b .next)))) (behind-said at₂ b r) $ heard ! ((r .line ≡ s) × (r .at ≡ b .next)) (λ e. split ! $
+        calls-at ! fm (Behind 𝓤 H A mem run) known-behind (to-behind at₂ u₂ b y)
+        (and-then ! (load ! (from ! (stop !)) (look ! 4 refl)) (and-then ! (load ! (from ! (stop !)) (look ! 16 refl)) (no-more !))) (λ u₃.
+        use1 W (later (some (λ (r : Reader).
+        ((‵ (flft κ q) ⊛ ‵ ftrue) ⊛ ‵ (OwnR r u₃)) ⊛ raw (ensured 𝓤 H A behind.ended (behind.clauses 𝓤 H A mem run) (κ, tt) (at₂, (b, tt)) tt r)))) (id⊢ 𝓤 _) $
+        await ! tt $ pick ! (λ r.
+        split ! $ move ! (1 ∷ []) $ use1 W (raw (fact 𝓤 ((r .line ≡ s) × (r .at ≡ b .next)))) (behind-said at₂ b r) $
+        heard ! ((r .line ≡ s) × (r .at ≡ b .next)) (λ e. split ! $
         rewrite ! 1 (λ (h : Reader). ‵ (OwnR h u₃)) (λ i. record { line = e .0 i; at = e .1 i }) refl $ move ! (1 ∷ []) $
         peeks ! (B (κ, tt)) (Is (B (κ, tt))) (shows 𝓤 H A (B (κ, tt))) at₃ (u₃ ∷ []) (λ is-u₃. land ! (from ! (stop !)) (init ! 15 refl (typed at₃ u₃ is-u₃)) $
         -- `taken`, of at₃. [what the reader owns; the token; what s owns; _12; …]
         assigns ! (of-opd ! (load ! (from ! (stop !)) (look ! 15 refl))) (from ! (stop !)) (init ! 3 refl (typed at₃ u₃ is-u₃)) $
         use2 W (raw (Taken 𝓤 H A mem run .pre (to-taken at₃ u₃))) (goes-taken at₃ u₃) $
         calls-at ! fm (Taken 𝓤 H A mem run) known-taken (to-taken at₃ u₃) (and-then ! (load ! (from ! (stop !)) (look ! 2 refl)) (no-more !)) (λ z.
-        use1 W (later (some (λ (f : Field). ((‵ (flft κ q) ⊛ ‵ ftrue) ⊛ ‵ (S.the-row .own f (z ∷ []))) ⊛ raw (ensured 𝓤 H A taken.ended (taken.clauses 𝓤 H A mem run) (κ, tt) (at₃, tt) tt f)))) (id⊢ 𝓤 _) $ await ! tt $ pick ! (λ f.
+        use1 W (later (some (λ (f : Field).
+        ((‵ (flft κ q) ⊛ ‵ ftrue) ⊛ ‵ (S.the-row .own f (z ∷ []))) ⊛ raw (ensured 𝓤 H A taken.ended (taken.clauses 𝓤 H A mem run) (κ, tt) (at₃, tt) tt f))))
+        (id⊢ 𝓤 _) $ await ! tt $ pick ! (λ f.
         split ! $ move ! (1 ∷ []) $ use1 W (raw (fact 𝓤 (f ≡ c))) (taken-said at₃ f) $ heard ! (f ≡ c) (λ e. split ! $
         rewrite ! 1 (λ (h : Field). ‵ (S.the-row .own h (z ∷ []))) e refl $ move ! (1 ∷ []) $
         facts ! S.the-row (Is S.the-row) (shows 𝓤 H A S.the-row) c (z ∷ []) (λ is-c. land ! (from ! (stop !)) (init ! 12 refl (typed-field c z is-c)) $
         -- `judge`. [the token; what s owns; _12; …]
         use2 W (raw (Judge 𝓤 H A mem run .pre (to-judge x y z)) ⊛ ‵ Own) (goes-judge x y z is-a is-b is-c) $ split ! $
-        calls-at ! fm (Judge 𝓤 H A mem run) known-judge (to-judge x y z) (and-then ! (load ! (from ! (stop !)) (look ! 24 refl)) (and-then ! (load ! (from ! (stop !)) (look ! 20 refl)) (and-then ! (load ! (from ! (stop !)) (look ! 16 refl)) (and-then ! (load ! (from ! (stop !)) (look ! 12 refl)) (no-more !))))) (λ u.
-        use1 W (later (some (λ (t : Request). ((‵ (flft κ q) ⊛ ‵ ftrue) ⊛ ‵ (Q.the-row .own t (u ∷ []))) ⊛ raw (ensured 𝓤 H A judge.ended (judge.clauses 𝓤 H A mem run) (κ, tt) (s, (a, (b, (c, tt)))) tt t)))) (id⊢ 𝓤 _) $ await ! tt $ pick ! (λ t.
-        split ! $ move ! (1 ∷ []) $ use1 W (raw (fact 𝓤 (t ≡ made-of-three (now s) a b c))) (judge-said t) $ heard ! (t ≡ made-of-three (now s) a b c) (λ e. split ! $
+        calls-at ! fm (Judge 𝓤 H A mem run) known-judge (to-judge x y z)
+        (and-then ! (load ! (from ! (stop !)) (look ! 24 refl))
+        (and-then ! (load ! (from ! (stop !)) (look ! 20 refl))
+        (and-then ! (load ! (from ! (stop !)) (look ! 16 refl)) (and-then ! (load ! (from ! (stop !)) (look ! 12 refl)) (no-more !))))) (λ u.
+        use1 W (later (some (λ (t : Request).
+        ((‵ (flft κ q) ⊛ ‵ ftrue) ⊛ ‵ (Q.the-row .own t (u ∷ []))) ⊛ raw
+        (ensured 𝓤 H A judge.ended (judge.clauses 𝓤 H A mem run) (κ, tt) (s, (a, (b, (c, tt)))) tt t)))) (id⊢ 𝓤 _) $ await ! tt $ pick ! (λ t.
+        split ! $ move ! (1 ∷ []) $ use1 W (raw (fact 𝓤 (t ≡ made-of-three (now s) a b c))) (judge-said t) $
+        heard ! (t ≡ made-of-three (now s) a b c) (λ e. split ! $
         -- [the result; the token; what s owns; _12; …]
-        move ! (1 ∷ []) $ peeks ! Q.the-row (Is Q.the-row) (shows 𝓤 H A Q.the-row) t (u ∷ []) (λ is. land ! (from ! (stop !)) (init ! 27 refl (EL.lawful Q.the-type Q′.the-laws 𝓤 H A W tt .typed t _ is .0)) $
-        returns ! (look ! 27 refl) $ forget ! 3 refl $ forget ! 5 refl $ forget ! 7 refl $ forget ! 9 refl $ forget ! 11 refl $ forget ! 13 refl $ forget ! 15 refl $ forget ! 17 refl $ forget ! 19 refl $ forget ! 21 refl $ forget ! 23 refl $ forget ! 25 refl $ forget ! 27 refl $
-        move ! (27 ∷ 28 ∷ []) $ free1 ! $ move ! (25 ∷ 26 ∷ []) $ free1 ! $ move ! (23 ∷ 24 ∷ []) $ free1 ! $ move ! (21 ∷ 22 ∷ []) $ free1 ! $ move ! (19 ∷ 20 ∷ []) $ free1 ! $ move ! (17 ∷ 18 ∷ []) $ free1 ! $ move ! (15 ∷ 16 ∷ []) $ free1 ! $ move ! (13 ∷ 14 ∷ []) $ free1 ! $ move ! (11 ∷ 12 ∷ []) $ free1 ! $ move ! (9 ∷ 10 ∷ []) $ free1 ! $ move ! (7 ∷ 8 ∷ []) $ free1 ! $ move ! (5 ∷ 6 ∷ []) $ free1 ! $ move ! (3 ∷ 4 ∷ []) $ free1 ! $ free0 ! $
+        move ! (1 ∷ []) $ peeks ! Q.the-row (Is Q.the-row) (shows 𝓤 H A Q.the-row) t (u ∷ []) (λ is.
+        land ! (from ! (stop !)) (init ! 27 refl (EL.lawful Q.the-type Q′.the-laws 𝓤 H A W tt .typed t _ is .0)) $
+        returns ! (look ! 27 refl) $ forget ! 3 refl $ forget ! 5 refl $ forget ! 7 refl $ forget ! 9 refl $ forget ! 11 refl $ forget ! 13 refl $
+        forget ! 15 refl $ forget ! 17 refl $ forget ! 19 refl $ forget ! 21 refl $ forget ! 23 refl $ forget ! 25 refl $ forget ! 27 refl $
+        move ! (27 ∷ 28 ∷ []) $ free1 ! $ move ! (25 ∷ 26 ∷ []) $ free1 ! $ move ! (23 ∷ 24 ∷ []) $ free1 ! $ move ! (21 ∷ 22 ∷ []) $ free1 ! $
+        move ! (19 ∷ 20 ∷ []) $ free1 ! $ move ! (17 ∷ 18 ∷ []) $ free1 ! $ move ! (15 ∷ 16 ∷ []) $ free1 ! $ move ! (13 ∷ 14 ∷ []) $ free1 ! $
+        move ! (11 ∷ 12 ∷ []) $ free1 ! $ move ! (9 ∷ 10 ∷ []) $ free1 ! $ move ! (7 ∷ 8 ∷ []) $ free1 ! $ move ! (5 ∷ 6 ∷ []) $ free1 ! $ move ! (3 ∷ 4 ∷ []) $
+        free1 ! $ free0 ! $
         by ! (exits t u e))))))))))))))))))))))))))))))))))))))))))
 
 module _ {M : Type 1} (𝓤 : URA M) (H : Heap 𝓤) (A : Atoms 𝓤) (W : Given 𝓤 H A) (mem : Memory → SProp 𝓤) (run : Routine → Fun 𝓤) where
-  read-walks : (C : Calls 𝓤 H) (Λ : Loops 𝓤 H) → FmC 𝓤 H (W .laws) C → Triple 𝓤 (C #lines·over) (Over 𝓤 H A mem run) → Triple 𝓤 (C #lines·taken) (Taken 𝓤 H A mem run) → Triple 𝓤 (C #lines·behind) (Behind 𝓤 H A mem run) → Triple 𝓤 (C #lines·judge) (Judge 𝓤 H A mem run)
+  read-walks : (C : Calls 𝓤 H) (Λ : Loops 𝓤 H) → FmC 𝓤 H (W .laws) C → Triple 𝓤 (C #lines·over) (Over 𝓤 H A mem run) →
+      Triple 𝓤 (C #lines·taken) (Taken 𝓤 H A mem run) → Triple 𝓤 (C #lines·behind) (Behind 𝓤 H A mem run) → Triple 𝓤 (C #lines·judge) (Judge 𝓤 H A mem run)
       → Walks 𝓤 H A read.ended stayed (WpFn 𝓤 H C Λ code.function) (read.clauses 𝓤 H A mem run)
-  read-walks C Λ fm known-over known-taken known-behind known-judge = walked 𝓤 H A read.ended stayed (read.clauses 𝓤 H A mem run) (WpFn 𝓤 H C Λ code.function) (λ κs. (slice-vals, tt)) (λ κs. (shr-slice-tells (named 0) (κs .0) u8, tt))
-      (λ κs qs bounds a g are. via 𝓤 _ (fst∗ 𝓤 _ (emp 𝓤)) (walk 𝓤 H A W mem run (κs .0) (qs .0) (a .0) C Λ fm known-over known-taken known-behind known-judge (are .0)))
+  read-walks C Λ fm known-over known-taken known-behind known-judge =
+      walked 𝓤 H A read.ended stayed (read.clauses 𝓤 H A mem run) (WpFn 𝓤 H C Λ code.function) (λ κs. (slice-vals, tt))
+      (λ κs. (shr-slice-tells (named 0) (κs .0) u8, tt))
+      (λ κs qs bounds a g are.
+      via 𝓤 _ (fst∗ 𝓤 _ (emp 𝓤)) (walk 𝓤 H A W mem run (κs .0) (qs .0) (a .0) C Λ fm known-over known-taken known-behind known-judge (are .0)))
 
 read-meets : {M : Type 1} (𝓤 : URA M) (H : Heap 𝓤) (A : Atoms 𝓤) (W : Given 𝓤 H A) (mem : Memory → SProp 𝓤) (run : Routine → Fun 𝓤) (𝓣 : Tables 𝓤 H)
-    → Triple 𝓤 (𝓣 .C #lines·over) (Over 𝓤 H A mem run) → Triple 𝓤 (𝓣 .C #lines·taken) (Taken 𝓤 H A mem run) → Triple 𝓤 (𝓣 .C #lines·behind) (Behind 𝓤 H A mem run) → Triple 𝓤 (𝓣 .C #lines·judge) (Judge 𝓤 H A mem run)
+    → Triple 𝓤 (𝓣 .C #lines·over) (Over 𝓤 H A mem run) → Triple 𝓤 (𝓣 .C #lines·taken) (Taken 𝓤 H A mem run) →
+    Triple 𝓤 (𝓣 .C #lines·behind) (Behind 𝓤 H A mem run) → Triple 𝓤 (𝓣 .C #lines·judge) (Judge 𝓤 H A mem run)
     → Meets 𝓤 H A read.signature (WpFn 𝓤 H (𝓣 .C) (𝓣 .Λ) code.function) (read.spec 𝓤 H A mem run)
-read-meets 𝓤 H A W mem run 𝓣 known-over known-taken known-behind known-judge = walk-meets 𝓤 H A read.ended stayed W (goes-none-slice 𝓤 H A W 1 (0 ∷ []) tt (plain (λ _. u8)) yes, tt) (read.clauses 𝓤 H A mem run) (WpFn 𝓤 H (𝓣 .C) (𝓣 .Λ) code.function) (WpFn-mono 𝓤 H (W .laws) 𝓣 code.function)
+read-meets 𝓤 H A W mem run 𝓣 known-over known-taken known-behind known-judge =
+    walk-meets 𝓤 H A read.ended stayed W (goes-none-slice 𝓤 H A W 1 (0 ∷ []) tt (plain (λ _. u8)) yes, tt) (read.clauses 𝓤 H A mem run)
+    (WpFn 𝓤 H (𝓣 .C) (𝓣 .Λ) code.function) (WpFn-mono 𝓤 H (W .laws) 𝓣 code.function)
     (read-walks 𝓤 H A W mem run (𝓣 .C) (𝓣 .Λ) (fmOf 𝓤 H (W .laws) 𝓣) known-over known-taken known-behind known-judge)
 
 pub read-spec : {M : Type 1} → stated.statement M

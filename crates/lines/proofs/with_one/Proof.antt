@@ -20,10 +20,18 @@ enum-told : tie.Need-enum-told
 enum-told c = search needs
 
 returns-2 : tie.Need-returns-2
-returns-2 c = one-there (λ i. AskNumber i) (c .before .before .before .before .before .before .args .a .now) (c .before .before .before .before .if1 .left) _ (sym (c .before .i .given .1) ∙ numeral-one _ _ (c .before .before .before .number .ensures) refl)
+returns-2 c =
+    let number = c .before .before .before in
+    let first-test = number .before in
+    let start = first-test .before .before in
+    one-there (λ i. AskNumber i) (start .args .a .now) (first-test .if1 .left) _ (sym (c .before .i .given .1) ∙ numeral-one _ _ (number .number .ensures) refl)
 
 returns-3 : tie.Need-returns-3
-returns-3 c = one-there (λ i. AskNumber i) (c .before .before .before .before .before .args .a .now) (c .before .before .before .if1 .left) _ (sym (c .enum-told .given .1) ∙ numeral-one _ _ (c .before .before .number .ensures) refl)
+returns-3 c =
+    let number = c .before .before in
+    let first-test = number .before in
+    let start = first-test .before .before in
+    one-there (λ i. AskNumber i) (start .args .a .now) (first-test .if1 .left) _ (sym (c .enum-told .given .1) ∙ numeral-one _ _ (number .number .ensures) refl)
 
 pub with-one-spec : {M : Type 1} → statement M
 with-one-spec =

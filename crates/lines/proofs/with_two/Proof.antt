@@ -9,10 +9,14 @@ use Rattle.lines.proofs.with_two.Statement.{statement}
 use Rattle.lines.proofs.with_two.Tie as tie
 
 returns : tie.Need-returns
-returns c = first-empty (cond (c .before .before .before .args .sets) (λ w h. SetArea w h) (λ x y. AskSquare x y)) (c .before .before .before .args .a .now) (c .before .before .before .args .b .now) (c .if1 .taken)
+returns c =
+    let start = c .before .before .before in
+    first-empty (cond (start .args .sets) (λ w h. SetArea w h) (λ x y. AskSquare x y)) (start .args .a .now) (start .args .b .now) (c .if1 .taken)
 
 returns-2 : tie.Need-returns-2
-returns-2 c = second-empty (cond (c .before .before .before .before .args .sets) (λ w h. SetArea w h) (λ x y. AskSquare x y)) (c .before .before .before .before .args .a .now) (c .before .before .before .before .args .b .now) (c .if2 .taken)
+returns-2 c =
+    let start = c .before .before .before .before in
+    second-empty (cond (start .args .sets) (λ w h. SetArea w h) (λ x y. AskSquare x y)) (start .args .a .now) (start .args .b .now) (c .if2 .taken)
 
 number-requires : tie.Need-number-requires
 number-requires c κs = search needs
@@ -27,7 +31,18 @@ enum-known-y : tie.Need-enum-known-y
 enum-known-y c = search needs
 
 returns-3 : tie.Need-returns-3
-returns-3 c = sym (rw (c .if3 .taken)) ∙ two-there (cond (c .before .before .before .before .before .before .before .before .before .before .before .before .before .args .sets) (λ w h. SetArea w h) (λ x y. AskSquare x y)) (c .before .before .before .before .before .before .before .before .before .before .before .before .before .args .a .now) (c .before .before .before .before .before .before .before .before .before .before .before .before .before .args .b .now) (c .before .before .before .before .before .before .before .before .before .before .if1 .left) (c .before .before .before .before .before .before .before .before .before .if2 .left) _ _ (sym (c .before .before .before .before .before .before .x .given .1) ∙ numeral-one _ _ (c .before .before .before .before .before .before .before .before .number .ensures) refl) (sym (c .before .before .y .given .1) ∙ numeral-one _ _ (c .before .before .before .before .number2 .ensures) refl)
+returns-3 c =
+    let at-y = c .before .before in
+    let number2 = at-y .before .before in
+    let at-x = number2 .before .before in
+    let number = at-x .before .before in
+    let second-test = number .before in
+    let first-test = second-test .before in
+    let start = first-test .before .before .before in
+    sym (rw (c .if3 .taken))
+    ∙ two-there (cond (start .args .sets) (λ w h. SetArea w h) (λ x y. AskSquare x y)) (start .args .a .now) (start .args .b .now) (first-test .if1 .left)
+    (second-test .if2 .left) _ _ (sym (at-x .x .given .1) ∙ numeral-one _ _ (number .number .ensures) refl)
+    (sym (at-y .y .given .1) ∙ numeral-one _ _ (number2 .number2 .ensures) refl)
 
 enum-told : tie.Need-enum-told
 enum-told c = search needs
@@ -36,13 +51,39 @@ enum-told-2 : tie.Need-enum-told-2
 enum-told-2 c = search needs
 
 returns-4 : tie.Need-returns-4
-returns-4 c = sym (rw (c .if3 .left)) ∙ two-there (cond (c .before .before .before .before .before .before .before .before .before .before .before .before .before .args .sets) (λ w h. SetArea w h) (λ x y. AskSquare x y)) (c .before .before .before .before .before .before .before .before .before .before .before .before .before .args .a .now) (c .before .before .before .before .before .before .before .before .before .before .before .before .before .args .b .now) (c .before .before .before .before .before .before .before .before .before .before .if1 .left) (c .before .before .before .before .before .before .before .before .before .if2 .left) _ _ (sym (c .before .before .before .before .before .before .x .given .1) ∙ numeral-one _ _ (c .before .before .before .before .before .before .before .before .number .ensures) refl) (sym (c .before .before .y .given .1) ∙ numeral-one _ _ (c .before .before .before .before .number2 .ensures) refl)
+returns-4 c =
+    let at-y = c .before .before in
+    let number2 = at-y .before .before in
+    let at-x = number2 .before .before in
+    let number = at-x .before .before in
+    let second-test = number .before in
+    let first-test = second-test .before in
+    let start = first-test .before .before .before in
+    sym (rw (c .if3 .left))
+    ∙ two-there (cond (start .args .sets) (λ w h. SetArea w h) (λ x y. AskSquare x y)) (start .args .a .now) (start .args .b .now) (first-test .if1 .left)
+    (second-test .if2 .left) _ _ (sym (at-x .x .given .1) ∙ numeral-one _ _ (number .number .ensures) refl)
+    (sym (at-y .y .given .1) ∙ numeral-one _ _ (number2 .number2 .ensures) refl)
 
 returns-5 : tie.Need-returns-5
-returns-5 c = two-there (cond (c .before .before .before .before .before .before .before .before .before .before .before .args .sets) (λ w h. SetArea w h) (λ x y. AskSquare x y)) (c .before .before .before .before .before .before .before .before .before .before .before .args .a .now) (c .before .before .before .before .before .before .before .before .before .before .before .args .b .now) (c .before .before .before .before .before .before .before .before .if1 .left) (c .before .before .before .before .before .before .before .if2 .left) _ _ (sym (c .before .before .before .before .x .given .1) ∙ numeral-one _ _ (c .before .before .before .before .before .before .number .ensures) refl) (sym (c .enum-told .given .1) ∙ numeral-one _ _ (c .before .before .number2 .ensures) refl)
+returns-5 c =
+    let number2 = c .before .before in
+    let at-x = number2 .before .before in
+    let number = at-x .before .before in
+    let second-test = number .before in
+    let first-test = second-test .before in
+    let start = first-test .before .before .before in
+    two-there (cond (start .args .sets) (λ w h. SetArea w h) (λ x y. AskSquare x y)) (start .args .a .now) (start .args .b .now) (first-test .if1 .left)
+    (second-test .if2 .left) _ _ (sym (at-x .x .given .1) ∙ numeral-one _ _ (number .number .ensures) refl)
+    (sym (c .enum-told .given .1) ∙ numeral-one _ _ (number2 .number2 .ensures) refl)
 
 returns-6 : tie.Need-returns-6
-returns-6 c = two-there (cond (c .before .before .before .before .before .before .before .args .sets) (λ w h. SetArea w h) (λ x y. AskSquare x y)) (c .before .before .before .before .before .before .before .args .a .now) (c .before .before .before .before .before .before .before .args .b .now) (c .before .before .before .before .if1 .left) (c .before .before .before .if2 .left) _ _ (sym (c .enum-told2 .given .1) ∙ numeral-one _ _ (c .before .before .number .ensures) refl) (refl)
+returns-6 c =
+    let number = c .before .before in
+    let second-test = number .before in
+    let first-test = second-test .before in
+    let start = first-test .before .before .before in
+    two-there (cond (start .args .sets) (λ w h. SetArea w h) (λ x y. AskSquare x y)) (start .args .a .now) (start .args .b .now) (first-test .if1 .left)
+    (second-test .if2 .left) _ _ (sym (c .enum-told2 .given .1) ∙ numeral-one _ _ (number .number .ensures) refl) refl
 
 pub with-two-spec : {M : Type 1} → statement M
 with-two-spec =
