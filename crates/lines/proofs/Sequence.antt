@@ -10,7 +10,7 @@ use lib.Dec.{leb, ltb, eqb}
 use lib.ListN.{length, take, drop, length-drop}
 use lib.Seq.{drop-drop}
 use Rattle.terms.specs.declared.Refusal.the-variants.{WrongShape, LongLine}
-use Rattle.lines.specs.declared.Field.{Field}
+use Rattle.lines.specs.declared.fields.Field.{Field}
 use Rattle.lines.specs.declared.Request.the-variants.{Refused}
 use Rattle.lines.specs.Lines.{onto, fields, shaped, request}
 use Rattle.lines.specs.Reading.{word, none, field-at, piece, made-of-three, three-read}

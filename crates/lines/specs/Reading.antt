@@ -6,7 +6,7 @@ use Prim.Native.Nat.{ℕ, _+_, _-_}
 use lib.Dec.{leb, ltb, eqb}
 use lib.ListN.{length, take, drop}
 use Rattle.terms.specs.declared.Refusal.the-variants.{WrongShape}
-use Rattle.lines.specs.declared.Field.{Field}
+use Rattle.lines.specs.declared.fields.Field.{Field}
 use Rattle.lines.specs.declared.Request.{Request}
 use Rattle.lines.specs.declared.Request.the-variants.{Refused}
 use Rattle.lines.specs.Lines.{two-fields, three-fields}

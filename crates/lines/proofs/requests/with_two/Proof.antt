@@ -1,12 +1,12 @@
--- `lines::with_two` meets its contract: both fields are there, then they are read.
+-- `lines::requests::with_two` meets its contract: both fields are there, then they are read.
 use borrow.Author.Needs.{needs}
 use mathlib.Core.Bool.{cond}
 use mathlib.Core.Path.{refl, sym, _∙_}
 use Rattle.lines.specs.declared.Request.the-variants.{SetArea, AskSquare}
 use Rattle.words.proofs.Promises.{numeral-one}
 use Rattle.lines.proofs.Shapes.{first-empty, second-empty, two-there}
-use Rattle.lines.proofs.with_two.Statement.{statement}
-use Rattle.lines.proofs.with_two.Tie as tie
+use Rattle.lines.proofs.requests.with_two.Statement.{statement}
+use Rattle.lines.proofs.requests.with_two.Tie as tie
 
 returns : tie.Need-returns
 returns c =

@@ -1,5 +1,5 @@
--- `lines::taken` meets its contract: a walk of its MIR, by hand. The reader is taken apart, and `field_at` is called on its line and place. A reader is Copy:
--- what it owns is had twice, one copy is kept whole for the exit, and of the other the line's goes to the callee.
+-- `reader::field_here` meets its contract: a walk of its MIR, by hand. The reader is taken apart, and `field_at` is called on its line and place.
+-- A reader is Copy: what it owns is had twice, one copy is kept whole for the exit, and of the other the line's goes to the callee.
 use mathlib.Core.Path.{_≡_, refl}
 use Prim.Native.Nat.{_<_, _^_}
 use mathlib.Core.List.{[], _∷_}
@@ -44,26 +44,26 @@ use denote.Triple.Walked.{says, Stays, stay-none, walkOf, goes-none, Walks, ends
 use denote.Exit.{yes}
 use denote.Triple.Clauses.{ensured, lasts}
 use Rattle.lines.specs.Reading.{field-at}
-use Rattle.lines.specs.declared.Reader.{Reader}
-use Rattle.lines.specs.declared.Field.{Field}
-use Rattle.lines.proofs.Reader as T
-use Rattle.lines.proofs.Reader.Laws as T′
-use Rattle.lines.proofs.Field as S
-use Rattle.lines.proofs.Field.Laws as S′
-use Rattle.lines.proofs.field_at as field
-use Rattle.lines.proofs.field_at.Symbol as field-def
-use Rattle.lines.proofs.field_at.Symbol.{name as #lines·field-at}
-use Rattle.lines.proofs.field_at.Met as field-thm
-use Rattle.lines.proofs.taken.Key.{name as #lines·taken}
-use Rattle.lines.proofs.taken as taken
-use Rattle.lines.proofs.taken.Statement as stated
-use Rattle.lines.proofs.taken.Code as code
+use Rattle.lines.specs.declared.reader.Reader.{Reader}
+use Rattle.lines.specs.declared.fields.Field.{Field}
+use Rattle.lines.proofs.reader.Reader as T
+use Rattle.lines.proofs.reader.Reader.Laws as T′
+use Rattle.lines.proofs.fields.Field as S
+use Rattle.lines.proofs.fields.Field.Laws as S′
+use Rattle.lines.proofs.fields.field_at as field
+use Rattle.lines.proofs.fields.field_at.Symbol as field-def
+use Rattle.lines.proofs.fields.field_at.Symbol.{name as #lines·field-at}
+use Rattle.lines.proofs.fields.field_at.Met as field-thm
+use Rattle.lines.proofs.reader.field_here.Key.{name as #lines·field-here}
+use Rattle.lines.proofs.reader.field_here as field-here
+use Rattle.lines.proofs.reader.field_here.Statement as stated
+use Rattle.lines.proofs.reader.field_here.Code as code
 
 -- the struct's type, over the signature's lifetimes
 abbrev B : Lfts 1 → RattleType
 B κs = T.the-row (namedLft 1 0 tt κs)
 
-abbrev stayed : Stays (taken.ended .signature .params) (taken.ended .kept)
+abbrev stayed : Stays (field-here.ended .signature .params) (field-here.ended .kept)
 stayed = (stay-none B yes, tt)
 
 module _ {M : Type 1} (𝓤 : URA M) (H : Heap 𝓤) (A : Atoms 𝓤) (mem : Memory → SProp 𝓤) (run : Routine → Fun 𝓤) where
@@ -84,7 +84,7 @@ module _ {M : Type 1} (𝓤 : URA M) (H : Heap 𝓤) (A : Atoms 𝓤) (W : Given
   found = field-at (now (d .line)) (d .at)
 
   abbrev Post : Val → SProp 𝓤
-  Post = walkOf 𝓤 H A taken.ended stayed (taken.clauses 𝓤 H A mem run) .post (((κ, tt), (q, tt), tt, (d, tt), (mach ∷ [], tt)), tt)
+  Post = walkOf 𝓤 H A field-here.ended stayed (field-here.clauses 𝓤 H A mem run) .post (((κ, tt), (q, tt), tt, (d, tt), (mach ∷ [], tt)), tt)
 
   abbrev Own : Fml
   Own = B (κ, tt) .own d (mach ∷ [])
@@ -110,7 +110,8 @@ module _ {M : Type 1} (𝓤 : URA M) (H : Heap 𝓤) (A : Atoms 𝓤) (W : Given
   asked = qed W ((‵ (flft κ q) ⊛ ‵ ftrue) ∷ ‵ (owns (ShrSlice (named 0) κ u8 ∷ usize ∷ []) (d .line, (d .at, tt)) passed) ∷ []) ∵ join ! $ frame ! $ done !
 
   -- what the struct owns gives what the callee asks, and is kept
-  apart : d .at < 2 ^ 64 → ent 𝓤 (onEntry 𝓤 H A taken.signature (κ, tt) (q, tt) (d, tt) (mach ∷ [], tt)) (sep 𝓤 (FieldAt 𝓤 H A mem run .pre to) (sem 𝓤 H A Own))
+  apart : d .at < 2 ^ 64 →
+      ent 𝓤 (onEntry 𝓤 H A field-here.signature (κ, tt) (q, tt) (d, tt) (mach ∷ [], tt)) (sep 𝓤 (FieldAt 𝓤 H A mem run .pre to) (sem 𝓤 H A Own))
   apart fits =
       qed W ((‵ (flft κ q) ⊛ ‵ ftrue) ∷ ‵ (owns (B (κ, tt) ∷ []) (d, tt) (mach ∷ [], tt)) ∷ []) ∵
       move ! (1 ∷ []) $ fsplit ! $ move ! (1 ∷ []) $ drop ! $
@@ -129,15 +130,16 @@ module _ {M : Type 1} (𝓤 : URA M) (H : Heap 𝓤) (A : Atoms 𝓤) (W : Given
   exits : (r : Field) (u : Val) → r ≡ found → ent 𝓤 (⋆ 𝓤 H A (‵ (S.the-row .own r (u ∷ [])) ∷ (‵ (flft κ q) ⊛ ‵ ftrue) ∷ ‵ Own ∷ [])) (Post u)
   exits r u e =
       qed W (‵ (S.the-row .own r (u ∷ [])) ∷ (‵ (flft κ q) ⊛ ‵ ftrue) ∷ ‵ Own ∷ []) ∵
-      suffices ! _ (ends-at 𝓤 H A taken.ended stayed (taken.clauses 𝓤 H A mem run) W (((κ, tt), (q, tt), tt, (d, tt), (mach ∷ [], tt)), tt) u r (tt, tt)
+      suffices ! _ (ends-at 𝓤 H A field-here.ended stayed (field-here.clauses 𝓤 H A mem run) W (((κ, tt), (q, tt), tt, (d, tt), (mach ∷ [], tt)), tt) u r
+      (tt, tt)
       (tt, tt)) $ says ! e $
       move ! (1 ∷ []) $ frame ! $ nothing ! $ move ! (2 ∷ 0 ∷ []) $ fjoin ! $ frame ! $ done !
 
   module _ (C : Calls 𝓤 H) (Λ : Loops 𝓤 H) (fm : FmC 𝓤 H (W .laws) C) (known : Triple 𝓤 (C #lines·field-at) (FieldAt 𝓤 H A mem run)) where
     walk : Holds (hasTy (T′.mir (named 0)) mach) × WT mach →
-        ent 𝓤 (onEntry 𝓤 H A taken.signature (κ, tt) (q, tt) (d, tt) (mach ∷ [], tt)) (WpFn 𝓤 H C Λ code.function (mach ∷ []) Post)
+        ent 𝓤 (onEntry 𝓤 H A field-here.signature (κ, tt) (q, tt) (d, tt) (mach ∷ [], tt)) (WpFn 𝓤 H C Λ code.function (mach ∷ []) Post)
     walk wt =
-        qed W (raw (onEntry 𝓤 H A taken.signature (κ, tt) (q, tt) (d, tt) (mach ∷ [], tt)) ∷ []) ∵ enter ! C Λ code.function (mach ∷ []) _ $
+        qed W (raw (onEntry 𝓤 H A field-here.signature (κ, tt) (q, tt) (d, tt) (mach ∷ [], tt)) ∷ []) ∵ enter ! C Λ code.function (mach ∷ []) _ $
         alloc1 ! (λ l₀. alloc1 ! (λ l₁. alloc1 ! (λ l₂. alloc1 ! (λ l₃. alloc0 ! $ params1 ! $ pass1 ! (init ! 4 refl wt) $ pass0 ! $
         assigns ! (of-opd ! (load ! (from ! (fld ! refl (stop !))) (look-in ! 4 (sub ! 0 refl (whole !))))) (from ! (stop !)) (init ! 2 refl (tt, wt .1 .0)) $
         assigns ! (of-opd ! (load ! (from ! (fld ! refl (stop !))) (look-in ! 4 (sub ! 1 refl (whole !))))) (from ! (stop !))
@@ -157,10 +159,10 @@ module _ {M : Type 1} (𝓤 : URA M) (H : Heap 𝓤) (A : Atoms 𝓤) (W : Given
         by ! (exits r u e)))))))))
 
 module _ {M : Type 1} (𝓤 : URA M) (H : Heap 𝓤) (A : Atoms 𝓤) (W : Given 𝓤 H A) (mem : Memory → SProp 𝓤) (run : Routine → Fun 𝓤) where
-  taken-walks : (C : Calls 𝓤 H) (Λ : Loops 𝓤 H) → FmC 𝓤 H (W .laws) C → Triple 𝓤 (C #lines·field-at) (FieldAt 𝓤 H A mem run)
-      → Walks 𝓤 H A taken.ended stayed (WpFn 𝓤 H C Λ code.function) (taken.clauses 𝓤 H A mem run)
-  taken-walks C Λ fm known =
-      walked 𝓤 H A taken.ended stayed (taken.clauses 𝓤 H A mem run) (WpFn 𝓤 H C Λ code.function)
+  field-here-walks : (C : Calls 𝓤 H) (Λ : Loops 𝓤 H) → FmC 𝓤 H (W .laws) C → Triple 𝓤 (C #lines·field-at) (FieldAt 𝓤 H A mem run)
+      → Walks 𝓤 H A field-here.ended stayed (WpFn 𝓤 H C Λ code.function) (field-here.clauses 𝓤 H A mem run)
+  field-here-walks C Λ fm known =
+      walked 𝓤 H A field-here.ended stayed (field-here.clauses 𝓤 H A mem run) (WpFn 𝓤 H C Λ code.function)
       (λ κs. (LL.vals (T.the-type (namedLft 1 0 tt κs)) (T′.the-laws (namedLft 1 0 tt κs)), tt))
       (λ κs. (LL.tells (T.the-type (namedLft 1 0 tt κs)) (T′.the-laws (namedLft 1 0 tt κs)), tt))
       (λ κs qs bounds a g are.
@@ -168,18 +170,20 @@ module _ {M : Type 1} (𝓤 : URA M) (H : Heap 𝓤) (A : Atoms 𝓤) (W : Given
       (walk 𝓤 H A W mem run (κs .0) (qs .0) (a .0) C Λ fm known
       (LL.lawful (T.the-type (namedLft 1 0 tt κs)) (T′.the-laws (namedLft 1 0 tt κs)) 𝓤 H A W .typed (a .0) _ (are .0) .0)))
 
-taken-meets : {M : Type 1} (𝓤 : URA M) (H : Heap 𝓤) (A : Atoms 𝓤) (W : Given 𝓤 H A) (mem : Memory → SProp 𝓤) (run : Routine → Fun 𝓤) (𝓣 : Tables 𝓤 H)
+field-here-meets : {M : Type 1} (𝓤 : URA M) (H : Heap 𝓤) (A : Atoms 𝓤) (W : Given 𝓤 H A) (mem : Memory → SProp 𝓤) (run : Routine → Fun 𝓤) (𝓣 : Tables 𝓤 H)
     → Triple 𝓤 (𝓣 .C #lines·field-at) (FieldAt 𝓤 H A mem run)
-    → Meets 𝓤 H A taken.signature (WpFn 𝓤 H (𝓣 .C) (𝓣 .Λ) code.function) (taken.spec 𝓤 H A mem run)
-taken-meets 𝓤 H A W mem run 𝓣 known-field =
-    walk-meets 𝓤 H A taken.ended stayed W (goes-none 𝓤 H A W 1 B yes (λ κs x f. refl), tt) (taken.clauses 𝓤 H A mem run) (WpFn 𝓤 H (𝓣 .C) (𝓣 .Λ) code.function)
+    → Meets 𝓤 H A field-here.signature (WpFn 𝓤 H (𝓣 .C) (𝓣 .Λ) code.function) (field-here.spec 𝓤 H A mem run)
+field-here-meets 𝓤 H A W mem run 𝓣 known-field =
+    walk-meets 𝓤 H A field-here.ended stayed W (goes-none 𝓤 H A W 1 B yes (λ κs x f. refl), tt) (field-here.clauses 𝓤 H A mem run)
+    (WpFn 𝓤 H (𝓣 .C) (𝓣 .Λ) code.function)
     (WpFn-mono 𝓤 H (W .laws) 𝓣 code.function)
-    (taken-walks 𝓤 H A W mem run (𝓣 .C) (𝓣 .Λ) (fmOf 𝓤 H (W .laws) 𝓣) known-field)
+    (field-here-walks 𝓤 H A W mem run (𝓣 .C) (𝓣 .Λ) (fmOf 𝓤 H (W .laws) 𝓣) known-field)
 
-pub taken-spec : {M : Type 1} → stated.statement M
+pub field-here-spec : {M : Type 1} → stated.statement M
 unfolding code.routine tablesOf
-taken-spec 𝓤 H 𝓜 𝓖 𝓡 =
-    entered 𝓤 H (tripleOf 𝓤 H (𝓖 .A) taken.signature (taken.spec 𝓤 H (𝓖 .A) (𝓜 .mem) (𝓡 .run)))
-    (tables 𝓤 H 𝓜 𝓡 code.env .C) (tables 𝓤 H 𝓜 𝓡 code.env .Λ) #lines·taken code.function (code.unfolded 𝓤 H 𝓜 𝓡)
-    (taken-meets 𝓤 H (𝓖 .A) (givenOf 𝓤 H 𝓜 𝓖) (𝓜 .mem) (𝓡 .run) (tablesOf 𝓤 H 𝓜 (tables 𝓤 H 𝓜 𝓡 code.env))
-    (cited 𝓤 H (FieldAt 𝓤 H (𝓖 .A) (𝓜 .mem) (𝓡 .run)) 𝓜 𝓡 code.env #lines·field-at field-def.routine code.calls-lines·field-at (field-thm.met 𝓤 H 𝓜 𝓖 𝓡)))
+field-here-spec 𝓤 H 𝓜 𝓖 𝓡 =
+    entered 𝓤 H (tripleOf 𝓤 H (𝓖 .A) field-here.signature (field-here.spec 𝓤 H (𝓖 .A) (𝓜 .mem) (𝓡 .run)))
+    (tables 𝓤 H 𝓜 𝓡 code.env .C) (tables 𝓤 H 𝓜 𝓡 code.env .Λ) #lines·field-here code.function (code.unfolded 𝓤 H 𝓜 𝓡)
+    (field-here-meets 𝓤 H (𝓖 .A) (givenOf 𝓤 H 𝓜 𝓖) (𝓜 .mem) (𝓡 .run) (tablesOf 𝓤 H 𝓜 (tables 𝓤 H 𝓜 𝓡 code.env))
+    (cited 𝓤 H (FieldAt 𝓤 H (𝓖 .A) (𝓜 .mem) (𝓡 .run)) 𝓜 𝓡 code.env #lines·field-at field-def.routine code.calls-lines·fields·field-at
+    (field-thm.met 𝓤 H 𝓜 𝓖 𝓡)))

@@ -1,12 +1,12 @@
--- `lines::end_of` meets its contract. What is due from the start is due from the place reached (`Words`); the measure is what is left of the line.
+-- `lines::fields::end_of` meets its contract. What is due from the start is due from the place reached (`Words`); the measure is what is left of the line.
 use mathlib.Core.Path.{_≡_, refl, sym, _∙_}
 use Prim.Native.Nat.{_-_}
 use native.Mathlib.Omega.{arith}
 use lib.ListN.{length}
 use Rattle.lines.specs.Reading.{field-at}
 use Rattle.lines.proofs.Words.{end-from, end-here, end-on, end-past}
-use Rattle.lines.proofs.end_of.Statement.{statement}
-use Rattle.lines.proofs.end_of.Tie as tie
+use Rattle.lines.proofs.fields.end_of.Statement.{statement}
+use Rattle.lines.proofs.fields.end_of.Tie as tie
 
 abbrev Inv-loop : tie.InvT-loop
 Inv-loop line at end₀ end = end-from line end ≡ end-from line at

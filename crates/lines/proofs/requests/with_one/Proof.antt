@@ -1,11 +1,11 @@
--- `lines::with_one` meets its contract: the field is there, then it is read.
+-- `lines::requests::with_one` meets its contract: the field is there, then it is read.
 use borrow.Author.Needs.{needs}
 use mathlib.Core.Path.{refl, sym, _∙_}
 use Rattle.lines.specs.declared.Request.the-variants.{AskNumber}
 use Rattle.words.proofs.Promises.{numeral-one}
 use Rattle.lines.proofs.Shapes.{one-empty, one-there}
-use Rattle.lines.proofs.with_one.Statement.{statement}
-use Rattle.lines.proofs.with_one.Tie as tie
+use Rattle.lines.proofs.requests.with_one.Statement.{statement}
+use Rattle.lines.proofs.requests.with_one.Tie as tie
 
 returns : tie.Need-returns
 returns c = one-empty (λ i. AskNumber i) (c .before .before .args .a .now) (c .if1 .taken)

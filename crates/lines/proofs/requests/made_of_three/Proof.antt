@@ -1,12 +1,12 @@
--- `lines::judge` meets its contract: the tests are the definition's, and the fields' bytes are its pieces.
+-- `lines::requests::made_of_three` meets its contract: the tests are the definition's, and the fields' bytes are its pieces.
 use borrow.Author.Needs.{needs}
 use mathlib.Core.Path.{sym, ap₂, _∙_}
 use borrow.Author.Tests.{eq-eqb, ne-eqb}
 use lib.ListN.{length}
 use Rattle.lines.specs.Lines.{two-fields, three-fields}
 use Rattle.lines.specs.Reading.{made-of-three}
-use Rattle.lines.proofs.judge.Statement.{statement}
-use Rattle.lines.proofs.judge.Tie as tie
+use Rattle.lines.proofs.requests.made_of_three.Statement.{statement}
+use Rattle.lines.proofs.requests.made_of_three.Tie as tie
 
 bytes-of-requires : tie.Need-bytes-of-requires
 bytes-of-requires c κs = search needs
@@ -60,8 +60,8 @@ returns-3 c =
     let line = start .args .line .now in
     sym (rw (ne-eqb (start .args .b .end) (length line) (first-test .if1 .left), ne-eqb (start .args .c .end) (length line) (c .if2 .left)))
 
-pub judge-spec : {M : Type 1} → statement M
-judge-spec =
+pub made-of-three-spec : {M : Type 1} → statement M
+made-of-three-spec =
     tie.close
     (tie.spec
     bytes-of-requires

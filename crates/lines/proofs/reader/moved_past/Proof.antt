@@ -1,5 +1,5 @@
--- `lines::behind` meets its contract: a walk of its MIR, by hand. A reader is made of the line of the one passed and the place where the field's next begins.
--- A reader is Copy: what it owns is had twice, once for the exit, and once for the result, with the facts of the new place.
+-- `reader::moved_past` meets its contract: a walk of its MIR, by hand. A reader is made of the line of the one passed and the place
+-- that follows the field. A reader is Copy: what it owns is had twice, for the exit and for the result, with the facts of the new place.
 use mathlib.Core.Path.{refl}
 use Prim.Native.Nat.{_<_, _^_}
 use mathlib.Core.List.{[], _∷_}
@@ -34,22 +34,22 @@ use denote.Triple.Spec.{Meets, tripleOf}
 use denote.Triple.Table.{entered}
 use denote.Triple.Walked.{says, Stays, stay-none, walkOf, goes-none, Walks, ends-at, walked, walk-meets}
 use denote.Exit.{yes}
-use Rattle.lines.specs.declared.Field.{Field}
-use Rattle.lines.specs.declared.Reader.{Reader}
-use Rattle.lines.proofs.Field as S
-use Rattle.lines.proofs.Field.Laws as S′
-use Rattle.lines.proofs.Reader as T
-use Rattle.lines.proofs.Reader.Laws as T′
-use Rattle.lines.proofs.behind.Key.{name as #lines·behind}
-use Rattle.lines.proofs.behind as behind
-use Rattle.lines.proofs.behind.Statement as stated
-use Rattle.lines.proofs.behind.Code as code
+use Rattle.lines.specs.declared.fields.Field.{Field}
+use Rattle.lines.specs.declared.reader.Reader.{Reader}
+use Rattle.lines.proofs.fields.Field as S
+use Rattle.lines.proofs.fields.Field.Laws as S′
+use Rattle.lines.proofs.reader.Reader as T
+use Rattle.lines.proofs.reader.Reader.Laws as T′
+use Rattle.lines.proofs.reader.moved_past.Key.{name as #lines·moved-past}
+use Rattle.lines.proofs.reader.moved_past as moved-past
+use Rattle.lines.proofs.reader.moved_past.Statement as stated
+use Rattle.lines.proofs.reader.moved_past.Code as code
 
 -- the struct's type, over the signature's lifetimes
 abbrev B : Lfts 1 → RattleType
 B κs = T.the-row (namedLft 1 0 tt κs)
 
-abbrev stayed : Stays (behind.ended .signature .params) (behind.ended .kept)
+abbrev stayed : Stays (moved-past.ended .signature .params) (moved-past.ended .kept)
 stayed = (stay-none B yes, (stay-none (λ _. S.the-row) yes, tt))
 
 module _ {M : Type 1} (𝓤 : URA M) (H : Heap 𝓤) (A : Atoms 𝓤) (W : Given 𝓤 H A) (mem : Memory → SProp 𝓤) (run : Routine → Fun 𝓤) (κ : Lft) (q : Share)
@@ -63,19 +63,19 @@ module _ {M : Type 1} (𝓤 : URA M) (H : Heap 𝓤) (A : Atoms 𝓤) (W : Given
   abbrev d′ : Reader
   d′ = record { line = d .line; at = f .next }
 
-  abbrev at : Vals behind.signature (κ, tt)
+  abbrev at : Vals moved-past.signature (κ, tt)
   at = (mach ∷ [], (mach′ ∷ [], tt))
 
   abbrev Post : Val → SProp 𝓤
-  Post = walkOf 𝓤 H A behind.ended stayed (behind.clauses 𝓤 H A mem run) .post (((κ, tt), (q, tt), tt, (d, (f, tt)), at), tt)
+  Post = walkOf 𝓤 H A moved-past.ended stayed (moved-past.clauses 𝓤 H A mem run) .post (((κ, tt), (q, tt), tt, (d, (f, tt)), at), tt)
 
   abbrev Own : Fml
   Own = B (κ, tt) .own d (mach ∷ [])
 
-  exits : ent 𝓤 (onEntry 𝓤 H A behind.signature (κ, tt) (q, tt) (d, (f, tt)) at) (Post (T′.lowered d′))
+  exits : ent 𝓤 (onEntry 𝓤 H A moved-past.signature (κ, tt) (q, tt) (d, (f, tt)) at) (Post (T′.lowered d′))
   exits =
       qed W ((‵ (flft κ q) ⊛ ‵ ftrue) ∷ ‵ (owns (B (κ, tt) ∷ S.the-row ∷ []) (d, (f, tt)) at) ∷ []) ∵
-      suffices ! _ (ends-at 𝓤 H A behind.ended stayed (behind.clauses 𝓤 H A mem run) W (((κ, tt), (q, tt), tt, (d, (f, tt)), at), tt) (T′.lowered d′) d′
+      suffices ! _ (ends-at 𝓤 H A moved-past.ended stayed (moved-past.clauses 𝓤 H A mem run) W (((κ, tt), (q, tt), tt, (d, (f, tt)), at), tt) (T′.lowered d′) d′
       (tt, (tt, tt)) (tt, (tt, tt))) $ says ! (refl, refl) $
       frame ! $ fsplit ! $ use1 W (‵ Own ⊛ ‵ Own)
       (LL.copy (T.the-type (namedLft 1 0 tt (κ, tt))) (T′.the-copy (namedLft 1 0 tt (κ, tt))) 𝓤 H A W .twice d (mach ∷ [])) $ split ! $ move ! (0 ∷ 2 ∷ []) $
@@ -86,7 +86,7 @@ module _ {M : Type 1} (𝓤 : URA M) (H : Heap 𝓤) (A : Atoms 𝓤) (W : Given
 
   module _ (C : Calls 𝓤 H) (Λ : Loops 𝓤 H) where
     walk : Holds (hasTy (T′.mir (named 0)) mach) × WT mach → Holds (hasTy S′.mir mach′) × WT mach′ →
-        ent 𝓤 (onEntry 𝓤 H A behind.signature (κ, tt) (q, tt) (d, (f, tt)) at) (WpFn 𝓤 H C Λ code.function (mach ∷ mach′ ∷ []) Post)
+        ent 𝓤 (onEntry 𝓤 H A moved-past.signature (κ, tt) (q, tt) (d, (f, tt)) at) (WpFn 𝓤 H C Λ code.function (mach ∷ mach′ ∷ []) Post)
     walk wt wt′ =
         qed W ((‵ (flft κ q) ⊛ ‵ ftrue) ∷ ‵ (owns (B (κ, tt) ∷ S.the-row ∷ []) (d, (f, tt)) at) ∷ []) ∵ enter ! C Λ code.function (mach ∷ mach′ ∷ []) _ $
         alloc1 ! (λ l₀. alloc1 ! (λ l₁. alloc1 ! (λ l₂. alloc1 ! (λ l₃. alloc0 ! $ params1 ! $ pass1 ! (init ! 4 refl wt) $ pass1 ! (init ! 2 refl wt′) $
@@ -99,8 +99,8 @@ module _ {M : Type 1} (𝓤 : URA M) (H : Heap 𝓤) (A : Atoms 𝓤) (W : Given
         move ! (6 ∷ 7 ∷ []) $ free1 ! $ move ! (4 ∷ 5 ∷ []) $ free1 ! $ move ! (2 ∷ 3 ∷ []) $ free1 ! $ free1 ! $ free0 ! $ by ! exits))))
 
 module _ {M : Type 1} (𝓤 : URA M) (H : Heap 𝓤) (A : Atoms 𝓤) (W : Given 𝓤 H A) (mem : Memory → SProp 𝓤) (run : Routine → Fun 𝓤) where
-  behind-walks : (C : Calls 𝓤 H) (Λ : Loops 𝓤 H) → Walks 𝓤 H A behind.ended stayed (WpFn 𝓤 H C Λ code.function) (behind.clauses 𝓤 H A mem run)
-  behind-walks C Λ = walked 𝓤 H A behind.ended stayed (behind.clauses 𝓤 H A mem run) (WpFn 𝓤 H C Λ code.function)
+  moved-past-walks : (C : Calls 𝓤 H) (Λ : Loops 𝓤 H) → Walks 𝓤 H A moved-past.ended stayed (WpFn 𝓤 H C Λ code.function) (moved-past.clauses 𝓤 H A mem run)
+  moved-past-walks C Λ = walked 𝓤 H A moved-past.ended stayed (moved-past.clauses 𝓤 H A mem run) (WpFn 𝓤 H C Λ code.function)
       (λ κs. (LL.vals (T.the-type (namedLft 1 0 tt κs)) (T′.the-laws (namedLft 1 0 tt κs)), (LL.vals S.the-type S′.the-laws, tt)))
       (λ κs. (LL.tells (T.the-type (namedLft 1 0 tt κs)) (T′.the-laws (namedLft 1 0 tt κs)), (LL.tells S.the-type S′.the-laws, tt)))
       (λ κs qs bounds a g are.
@@ -108,15 +108,16 @@ module _ {M : Type 1} (𝓤 : URA M) (H : Heap 𝓤) (A : Atoms 𝓤) (W : Given
       (LL.lawful (T.the-type (namedLft 1 0 tt κs)) (T′.the-laws (namedLft 1 0 tt κs)) 𝓤 H A W .typed (a .0) _ (are .0) .0)
       (LL.lawful S.the-type S′.the-laws 𝓤 H A W .typed (a .1 .0) _ (are .1 .0) .0)))
 
-behind-meets : {M : Type 1} (𝓤 : URA M) (H : Heap 𝓤) (A : Atoms 𝓤) → Given 𝓤 H A → (mem : Memory → SProp 𝓤) (run : Routine → Fun 𝓤) (𝓣 : Tables 𝓤 H)
-    → Meets 𝓤 H A behind.signature (WpFn 𝓤 H (𝓣 .C) (𝓣 .Λ) code.function) (behind.spec 𝓤 H A mem run)
-behind-meets 𝓤 H A W mem run 𝓣 =
-    walk-meets 𝓤 H A behind.ended stayed W (goes-none 𝓤 H A W 1 B yes (λ κs x f. refl), (goes-none 𝓤 H A W 1 (λ _. S.the-row) yes (λ κs x f. refl), tt))
-    (behind.clauses 𝓤 H A mem run) (WpFn 𝓤 H (𝓣 .C) (𝓣 .Λ) code.function) (WpFn-mono 𝓤 H (W .laws) 𝓣 code.function) (behind-walks 𝓤 H A W mem run (𝓣 .C) (𝓣 .Λ))
+moved-past-meets : {M : Type 1} (𝓤 : URA M) (H : Heap 𝓤) (A : Atoms 𝓤) → Given 𝓤 H A → (mem : Memory → SProp 𝓤) (run : Routine → Fun 𝓤) (𝓣 : Tables 𝓤 H)
+    → Meets 𝓤 H A moved-past.signature (WpFn 𝓤 H (𝓣 .C) (𝓣 .Λ) code.function) (moved-past.spec 𝓤 H A mem run)
+moved-past-meets 𝓤 H A W mem run 𝓣 =
+    walk-meets 𝓤 H A moved-past.ended stayed W (goes-none 𝓤 H A W 1 B yes (λ κs x f. refl), (goes-none 𝓤 H A W 1 (λ _. S.the-row) yes (λ κs x f. refl), tt))
+    (moved-past.clauses 𝓤 H A mem run) (WpFn 𝓤 H (𝓣 .C) (𝓣 .Λ) code.function) (WpFn-mono 𝓤 H (W .laws) 𝓣 code.function)
+    (moved-past-walks 𝓤 H A W mem run (𝓣 .C) (𝓣 .Λ))
 
-pub behind-spec : {M : Type 1} → stated.statement M
+pub moved-past-spec : {M : Type 1} → stated.statement M
 unfolding code.routine tablesOf
-behind-spec 𝓤 H 𝓜 𝓖 𝓡 =
-    entered 𝓤 H (tripleOf 𝓤 H (𝓖 .A) behind.signature (behind.spec 𝓤 H (𝓖 .A) (𝓜 .mem) (𝓡 .run)))
-    (tables 𝓤 H 𝓜 𝓡 code.env .C) (tables 𝓤 H 𝓜 𝓡 code.env .Λ) #lines·behind code.function (code.unfolded 𝓤 H 𝓜 𝓡)
-    (behind-meets 𝓤 H (𝓖 .A) (givenOf 𝓤 H 𝓜 𝓖) (𝓜 .mem) (𝓡 .run) (tablesOf 𝓤 H 𝓜 (tables 𝓤 H 𝓜 𝓡 code.env)))
+moved-past-spec 𝓤 H 𝓜 𝓖 𝓡 =
+    entered 𝓤 H (tripleOf 𝓤 H (𝓖 .A) moved-past.signature (moved-past.spec 𝓤 H (𝓖 .A) (𝓜 .mem) (𝓡 .run)))
+    (tables 𝓤 H 𝓜 𝓡 code.env .C) (tables 𝓤 H 𝓜 𝓡 code.env .Λ) #lines·moved-past code.function (code.unfolded 𝓤 H 𝓜 𝓡)
+    (moved-past-meets 𝓤 H (𝓖 .A) (givenOf 𝓤 H 𝓜 𝓖) (𝓜 .mem) (𝓡 .run) (tablesOf 𝓤 H 𝓜 (tables 𝓤 H 𝓜 𝓡 code.env)))

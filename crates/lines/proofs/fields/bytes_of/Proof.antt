@@ -1,4 +1,4 @@
--- `lines::bytes_of` meets its contract: a field that does not lie in the line has no bytes.
+-- `lines::fields::bytes_of` meets its contract: a field that does not lie in the line has no bytes.
 use borrow.Author.Needs.{needs}
 use mathlib.Core.Bool.{and-false}
 use mathlib.Core.Path.{sym}
@@ -6,8 +6,8 @@ use borrow.Author.Tests.{le-leb, lt-leb}
 use lib.Dec.{leb}
 use lib.ListN.{length}
 use Rattle.lines.specs.Reading.{piece}
-use Rattle.lines.proofs.bytes_of.Statement.{statement}
-use Rattle.lines.proofs.bytes_of.Tie as tie
+use Rattle.lines.proofs.fields.bytes_of.Statement.{statement}
+use Rattle.lines.proofs.fields.bytes_of.Tie as tie
 
 slice-aggregate-result : tie.Need-slice-aggregate-result
 slice-aggregate-result c = search needs

@@ -1,8 +1,8 @@
--- `lines::two_fields` meets its contract.
+-- `lines::requests::two_fields` meets its contract.
 use borrow.Author.Needs.{needs}
 use mathlib.Core.Path.{sym, _∙_}
-use Rattle.lines.proofs.two_fields.Statement.{statement}
-use Rattle.lines.proofs.two_fields.Tie as tie
+use Rattle.lines.proofs.requests.two_fields.Statement.{statement}
+use Rattle.lines.proofs.requests.two_fields.Tie as tie
 
 slice-aggregate-is-word : tie.Need-slice-aggregate-is-word
 slice-aggregate-is-word c = search needs

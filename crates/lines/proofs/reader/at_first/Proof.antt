@@ -1,4 +1,4 @@
--- `lines::over` meets its contract: a walk of its MIR, by hand. A `Reader` is made of the line passed and 0, in the result's local.
+-- `reader::at_first` meets its contract: a walk of its MIR, by hand. A `Reader` is made of the line passed and 0, in the result's local.
 -- A `&[u8]` is Copy, so what it owns is had twice: once for the line at the exit, and once for the result, with the facts of the place.
 use mathlib.Core.Path.{refl}
 use Prim.Native.Nat.{ℕ}
@@ -34,15 +34,15 @@ use denote.Triple.Spec.{Meets, tripleOf}
 use denote.Triple.Table.{entered}
 use denote.Triple.Walked.{says, Stays, stay-none-slice, walkOf, goes-none-slice, Walks, ends-at, walked, walk-meets}
 use denote.Exit.{yes}
-use Rattle.lines.specs.declared.Reader.{Reader}
-use Rattle.lines.proofs.Reader as T
-use Rattle.lines.proofs.Reader.Laws as T′
-use Rattle.lines.proofs.over.Key.{name as #lines·over}
-use Rattle.lines.proofs.over as over
-use Rattle.lines.proofs.over.Statement as stated
-use Rattle.lines.proofs.over.Code as code
+use Rattle.lines.specs.declared.reader.Reader.{Reader}
+use Rattle.lines.proofs.reader.Reader as T
+use Rattle.lines.proofs.reader.Reader.Laws as T′
+use Rattle.lines.proofs.reader.at_first.Key.{name as #lines·at-first}
+use Rattle.lines.proofs.reader.at_first as at-first
+use Rattle.lines.proofs.reader.at_first.Statement as stated
+use Rattle.lines.proofs.reader.at_first.Code as code
 
-abbrev stayed : Stays (over.ended .signature .params) (over.ended .kept)
+abbrev stayed : Stays (at-first.ended .signature .params) (at-first.ended .kept)
 stayed = (stay-none-slice (0 ∷ []) tt (plain (λ _. u8)) yes, tt)
 
 module _ {M : Type 1} (𝓤 : URA M) (H : Heap 𝓤) (A : Atoms 𝓤) (W : Given 𝓤 H A) (mem : Memory → SProp 𝓤) (run : Routine → Fun 𝓤) (κ : Lft) (q : Share)
@@ -61,15 +61,16 @@ module _ {M : Type 1} (𝓤 : URA M) (H : Heap 𝓤) (A : Atoms 𝓤) (W : Given
   at = (v ∷ [], tt)
 
   abbrev Post : Val → SProp 𝓤
-  Post = walkOf 𝓤 H A over.ended stayed (over.clauses 𝓤 H A mem run) .post (((κ, tt), (q, tt), tt, (s, tt), at), tt)
+  Post = walkOf 𝓤 H A at-first.ended stayed (at-first.clauses 𝓤 H A mem run) .post (((κ, tt), (q, tt), tt, (s, tt), at), tt)
 
   abbrev Own : Fml
   Own = ShrSlice (named 0) κ u8 .own s (v ∷ [])
 
-  exits : ent 𝓤 (onEntry 𝓤 H A over.signature (κ, tt) (q, tt) (s, tt) at) (Post (T′.lowered made))
+  exits : ent 𝓤 (onEntry 𝓤 H A at-first.signature (κ, tt) (q, tt) (s, tt) at) (Post (T′.lowered made))
   exits =
       qed W ((‵ (flft κ q) ⊛ ‵ ftrue) ∷ ‵ (owns (ShrSlice (named 0) κ u8 ∷ []) (s, tt) at) ∷ []) ∵
-      suffices ! _ (ends-at 𝓤 H A over.ended stayed (over.clauses 𝓤 H A mem run) W (((κ, tt), (q, tt), tt, (s, tt), at), tt) (T′.lowered made) made (tt, tt)
+      suffices ! _ (ends-at 𝓤 H A at-first.ended stayed (at-first.clauses 𝓤 H A mem run) W (((κ, tt), (q, tt), tt, (s, tt), at), tt) (T′.lowered made) made
+      (tt, tt)
       (tt, tt)) $ says ! (refl, refl) $
       frame ! $ fsplit ! $ use1 W (‵ Own ⊛ ‵ Own) (shr-slice-copy 𝓤 H A W (named 0) κ u8 .twice s (v ∷ [])) $ split ! $ move ! (0 ∷ 2 ∷ []) $ fjoin ! $
       frame ! $
@@ -78,9 +79,10 @@ module _ {M : Type 1} (𝓤 : URA M) (H : Heap 𝓤) (A : Atoms 𝓤) (W : Given
       by ! (own-shut 𝓤 H A W (T.the-type α) (T′.the-laws α) (s, (0, tt)))
 
   module _ (C : Calls 𝓤 H) (Λ : Loops 𝓤 H) where
-    walk : Is (ShrSlice (named 0) κ u8) s (v ∷ []) → ent 𝓤 (onEntry 𝓤 H A over.signature (κ, tt) (q, tt) (s, tt) at) (WpFn 𝓤 H C Λ code.function (v ∷ []) Post)
+    walk : Is (ShrSlice (named 0) κ u8) s (v ∷ []) →
+        ent 𝓤 (onEntry 𝓤 H A at-first.signature (κ, tt) (q, tt) (s, tt) at) (WpFn 𝓤 H C Λ code.function (v ∷ []) Post)
     walk p =
-        qed W (raw (onEntry 𝓤 H A over.signature (κ, tt) (q, tt) (s, tt) at) ∷ []) ∵ enter ! C Λ code.function (v ∷ []) _ $
+        qed W (raw (onEntry 𝓤 H A at-first.signature (κ, tt) (q, tt) (s, tt) at) ∷ []) ∵ enter ! C Λ code.function (v ∷ []) _ $
         alloc1 ! (λ l₀. alloc1 ! (λ l₁. alloc0 ! $ params1 ! $ pass1 ! (init ! 0 refl (shr-slice-lawful 𝓤 H A W (named 0) κ u8 .typed s (v ∷ []) p .0)) $
         pass0 ! $
         assigns ! (agg ! (and-then ! (load ! (from ! (stop !)) (look ! 0 refl)) (and-then ! (lit ! tt) (no-more !)))) (from ! (stop !))
@@ -88,20 +90,20 @@ module _ {M : Type 1} (𝓤 : URA M) (H : Heap 𝓤) (A : Atoms 𝓤) (W : Given
         returns ! (look ! 2 refl) $ forget ! 0 refl $ forget ! 2 refl $ move ! (2 ∷ 3 ∷ []) $ free1 ! $ free1 ! $ free0 ! $ by ! exits))
 
 module _ {M : Type 1} (𝓤 : URA M) (H : Heap 𝓤) (A : Atoms 𝓤) (W : Given 𝓤 H A) (mem : Memory → SProp 𝓤) (run : Routine → Fun 𝓤) where
-  over-walks : (C : Calls 𝓤 H) (Λ : Loops 𝓤 H) → Walks 𝓤 H A over.ended stayed (WpFn 𝓤 H C Λ code.function) (over.clauses 𝓤 H A mem run)
-  over-walks C Λ = walked 𝓤 H A over.ended stayed (over.clauses 𝓤 H A mem run) (WpFn 𝓤 H C Λ code.function) (λ κs. (slice-vals, tt))
+  at-first-walks : (C : Calls 𝓤 H) (Λ : Loops 𝓤 H) → Walks 𝓤 H A at-first.ended stayed (WpFn 𝓤 H C Λ code.function) (at-first.clauses 𝓤 H A mem run)
+  at-first-walks C Λ = walked 𝓤 H A at-first.ended stayed (at-first.clauses 𝓤 H A mem run) (WpFn 𝓤 H C Λ code.function) (λ κs. (slice-vals, tt))
       (λ κs. (shr-slice-tells (named 0) (κs .0) u8, tt))
       (λ κs qs bounds a g are. via 𝓤 _ (fst∗ 𝓤 _ (emp 𝓤)) (walk 𝓤 H A W mem run (κs .0) (qs .0) (a .0) C Λ (are .0)))
 
-over-meets : {M : Type 1} (𝓤 : URA M) (H : Heap 𝓤) (A : Atoms 𝓤) → Given 𝓤 H A → (mem : Memory → SProp 𝓤) (run : Routine → Fun 𝓤) (𝓣 : Tables 𝓤 H)
-    → Meets 𝓤 H A over.signature (WpFn 𝓤 H (𝓣 .C) (𝓣 .Λ) code.function) (over.spec 𝓤 H A mem run)
-over-meets 𝓤 H A W mem run 𝓣 =
-    walk-meets 𝓤 H A over.ended stayed W (goes-none-slice 𝓤 H A W 1 (0 ∷ []) tt (plain (λ _. u8)) yes, tt) (over.clauses 𝓤 H A mem run)
-    (WpFn 𝓤 H (𝓣 .C) (𝓣 .Λ) code.function) (WpFn-mono 𝓤 H (W .laws) 𝓣 code.function) (over-walks 𝓤 H A W mem run (𝓣 .C) (𝓣 .Λ))
+at-first-meets : {M : Type 1} (𝓤 : URA M) (H : Heap 𝓤) (A : Atoms 𝓤) → Given 𝓤 H A → (mem : Memory → SProp 𝓤) (run : Routine → Fun 𝓤) (𝓣 : Tables 𝓤 H)
+    → Meets 𝓤 H A at-first.signature (WpFn 𝓤 H (𝓣 .C) (𝓣 .Λ) code.function) (at-first.spec 𝓤 H A mem run)
+at-first-meets 𝓤 H A W mem run 𝓣 =
+    walk-meets 𝓤 H A at-first.ended stayed W (goes-none-slice 𝓤 H A W 1 (0 ∷ []) tt (plain (λ _. u8)) yes, tt) (at-first.clauses 𝓤 H A mem run)
+    (WpFn 𝓤 H (𝓣 .C) (𝓣 .Λ) code.function) (WpFn-mono 𝓤 H (W .laws) 𝓣 code.function) (at-first-walks 𝓤 H A W mem run (𝓣 .C) (𝓣 .Λ))
 
-pub over-spec : {M : Type 1} → stated.statement M
+pub at-first-spec : {M : Type 1} → stated.statement M
 unfolding code.routine tablesOf
-over-spec 𝓤 H 𝓜 𝓖 𝓡 =
-    entered 𝓤 H (tripleOf 𝓤 H (𝓖 .A) over.signature (over.spec 𝓤 H (𝓖 .A) (𝓜 .mem) (𝓡 .run)))
-    (tables 𝓤 H 𝓜 𝓡 code.env .C) (tables 𝓤 H 𝓜 𝓡 code.env .Λ) #lines·over code.function (code.unfolded 𝓤 H 𝓜 𝓡)
-    (over-meets 𝓤 H (𝓖 .A) (givenOf 𝓤 H 𝓜 𝓖) (𝓜 .mem) (𝓡 .run) (tablesOf 𝓤 H 𝓜 (tables 𝓤 H 𝓜 𝓡 code.env)))
+at-first-spec 𝓤 H 𝓜 𝓖 𝓡 =
+    entered 𝓤 H (tripleOf 𝓤 H (𝓖 .A) at-first.signature (at-first.spec 𝓤 H (𝓖 .A) (𝓜 .mem) (𝓡 .run)))
+    (tables 𝓤 H 𝓜 𝓡 code.env .C) (tables 𝓤 H 𝓜 𝓡 code.env .Λ) #lines·at-first code.function (code.unfolded 𝓤 H 𝓜 𝓡)
+    (at-first-meets 𝓤 H (𝓖 .A) (givenOf 𝓤 H 𝓜 𝓖) (𝓜 .mem) (𝓡 .run) (tablesOf 𝓤 H 𝓜 (tables 𝓤 H 𝓜 𝓡 code.env)))
