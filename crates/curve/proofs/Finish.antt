@@ -1,20 +1,21 @@
 -- Where the curve of an area ends: the square of its last number, in one of three ways. By induction over the blocks: a cut area ends where its last part
 -- ends, and that part's lengths decide which way it is.
 use mathlib.Core.Bool.{Bool, true, false}
-use mathlib.Core.Path.{_≡_, refl, ap, subst, _∙_}
+use mathlib.Core.List.{[], _∷_}
+use mathlib.Core.Path.{_≡_, refl, sym, ap, ap₂, subst, _∙_}
 use Prim.Native.Nat.{ℕ, _+_, _-_, _*_, _/_, _%_, _≤_, _<_}
+use native.Mathlib.Nat.{add-sub-of-le, mul-le-mul}
 use native.Mathlib.Omega.{arith}
 use borrow.Author.Tests.{eqb-true, eqb-false}
 use lib.Dec.{eqb}
 use Rattle.division.specs.declared.Choice.the-variants.{LongCut, UCut}
-use Rattle.division.specs.Division.{square, Block, whole, even-half, part, parts, parts-of, square-of, number-of}
+use Rattle.division.specs.Division.{square, Block, whole, even-half, First, Second, A, B, C, part, parts, parts-of, square-of}
 use Rattle.division.specs.Division.Inside.{Sized}
 use Rattle.division.specs.Division.Rules.{All, Chosen, is-run, is-side, is-long, is-u, chosen, halves, parts-are}
 use Rattle.division.proofs.Cases.{induction}
 use Rattle.division.proofs.Cuts.{long-areas, u-areas}
-use Rattle.division.proofs.Blocks.{whole-inside}
-use Rattle.division.proofs.Local.{Within, inner, in-second, in-c, squares-of, whole-holds, area-run, area-side, area-cut}
-use Rattle.division.proofs.Once.{square-of-number}
+use Rattle.division.proofs.Local.{inner, squares-of}
+use Rattle.division.proofs.Squares.{area-at-part, area-run-at, area-side-at}
 use Rattle.division.proofs.Walks.{half-small, half-large}
 
 -- the three ways: up along a width of 1, one short of the corner, and at the corner
@@ -38,7 +39,7 @@ at-least-3 n odd l = omega arith
 
 -- an area's last number is where it ends
 abbrev Last : Block → Type 0
-Last k = (x y : ℕ) → Ends (k .a) (k .b) x y → number-of (whole (k .a) (k .b)) (square x y) + 1 ≡ k .a * k .b
+Last k = (x y : ℕ) → Ends (k .a) (k .b) x y → square-of (whole (k .a) (k .b)) (k .a * k .b - 1) ≡ square x y
 
 module _ (a b x y : ℕ) where
   -- the last part of a long cut ends as the block does
@@ -80,70 +81,66 @@ second-behind a b x y lb l (up one p q) = absurd (omega arith)
 second-behind a b x y lb l (short two la odd p q) = let half = halves a (omega arith) in omega arith
 second-behind a b x y lb l (corner la even p q) = let half = halves a la in omega arith
 
-c-behind : (a b x y : ℕ) → 2 ≤ a → 2 ≤ b → Ends a b x y → (a / 2 ≤ x) × (y < even-half b)
+c-behind : (a b x y : ℕ) → 2 ≤ a → 2 ≤ b → Ends a b x y → (x < a) × (y < even-half b)
 c-behind a b x y la lb (up one p q) = absurd (omega arith)
 c-behind a b x y la lb (short two three odd p q) = let half = halves b lb in (omega arith, omega arith)
 c-behind a b x y la lb (corner la′ even p q) = let half = halves b lb in (omega arith, omega arith)
 
--- within the area, for every way
-ends-within : (a b x y : ℕ) → 1 ≤ b → Ends a b x y → Within a b (square x y)
-ends-within a b x y lb (up one p q) = record { run = omega arith; side = omega arith }
-ends-within a b x y lb (short two la odd p q) = record { run = omega arith; side = omega arith }
-ends-within a b x y lb (corner la even p q) = record { run = omega arith; side = omega arith }
-
 -- a straight area, by its rule
-run-last : (a b x y : ℕ) → b ≡ 1 → Ends a b x y → x + 1 ≡ a * b
-run-last a b x y is (up one p q) = rw is (omega arith)
+run-last : (a b x y : ℕ) → b ≡ 1 → Ends a b x y → (x + 1 ≡ a * b) × (y ≡ 0)
+run-last a b x y is (up one p q) = (rw is (omega arith), omega arith)
 run-last a b x y is (short two la odd p q) = absurd (omega arith)
-run-last a b x y is (corner la even p q) = rw is (omega arith)
+run-last a b x y is (corner la even p q) = (rw is (omega arith), q)
 
-side-last : (a b x y : ℕ) → a ≡ 1 → Ends a b x y → y + 1 ≡ a * b
-side-last a b x y is (up one p q) = rw is (omega arith)
+side-last : (a b x y : ℕ) → a ≡ 1 → Ends a b x y → (x ≡ 0) × (y + 1 ≡ a * b)
+side-last a b x y is (up one p q) = (p, rw is (omega arith))
 side-last a b x y is (short two la odd p q) = absurd (omega arith)
 side-last a b x y is (corner la even p q) = absurd (omega arith)
 
-module _ (k : Block) (h : Sized k) (x y : ℕ) (ends : Ends (k .a) (k .b) x y) (below : All Last (parts k)) where
-  here : Within (k .a) (k .b) (square x y)
-  here = ends-within (k .a) (k .b) x y (h .side) ends
+-- the last number of an area, from that of its last part
+last-of : (before part all : ℕ) → before + part ≡ all → 1 ≤ part → all - 1 ≡ before + (part - 1)
+last-of before part all sum some = omega arith
 
-  last-by : Chosen (k .a) (k .b) → number-of (whole (k .a) (k .b)) (square x y) + 1 ≡ k .a * k .b
+module _ (k : Block) (h : Sized k) (x y : ℕ) (ends : Ends (k .a) (k .b) x y) (below : All Last (parts k)) where
+  last-by : Chosen (k .a) (k .b) → square-of (whole (k .a) (k .b)) (k .a * k .b - 1) ≡ square x y
   unfolding squares-of part parts-of inner whole
   last-by (is-run c one) =
-      let number = area-run (k .a) (k .b) (h .run) (h .side) (square x y) here c one .0 in
-      ap (λ n. n + 1) number ∙ run-last (k .a) (k .b) x y one ends
+      let last = run-last (k .a) (k .b) x y one ends in
+      area-run-at (k .a) (k .b) (h .run) (h .side) (k .a * k .b - 1) c (rw one (omega arith)) ∙ ap₂ square (omega arith) (sym (last .1))
   last-by (is-side c one two) =
-      let number = area-side (k .a) (k .b) (h .run) (h .side) (square x y) here c one .0 in
-      ap (λ n. n + 1) number ∙ side-last (k .a) (k .b) x y one ends
+      let last = side-last (k .a) (k .b) x y one ends in
+      area-side-at (k .a) (k .b) (h .run) (h .side) (k .a * k .b - 1) c (rw one (omega arith)) ∙ ap₂ square (sym (last .0)) (omega arith)
   last-by (is-long c la lb l) =
       let half = halves (k .a) la in
-      let behind = second-behind (k .a) (k .b) x y lb l ends in
       let e = even-half (k .a) in
-      let number : number-of (whole (k .a) (k .b)) (square x y) ≡ e * k .b + 0 + number-of (whole (k .a - e) (k .b)) (square (x - e) y) =
-      area-cut (k .a) (k .b) (h .run) (h .side) (square x y) lb (in-second (k .a) (k .b) (square x y) c behind (here .run) (here .side)) .0 in
+      let n = (k .a - e) * k .b in
+      let rest : 1 ≤ k .a - e = omega arith in
+      let some : 1 * 1 ≤ n = mul-le-mul rest (h .side) in
       let there = subst (All Last) (parts-are k LongCut c) below .1 .0 (x - e) y (second-ends (k .a) (k .b) x y lb l ends) in
-      let all = long-areas e (k .a) (k .b) (omega arith) in
-      omega arith
+      let sum = long-areas e (k .a) (k .b) (omega arith) in
+      ap (square-of (whole (k .a) (k .b))) (last-of (e * k .b + 0) n (k .a * k .b) (omega arith) some)
+      ∙ area-at-part (k .a) (k .b) (h .run) (h .side) (First ∷ []) Second [] (ap parts-of c) (n - 1) (omega arith)
+      ∙ ap (inner Second (k .a) (k .b)) there
+      ∙ ap (λ u. square u y) (add-sub-of-le (second-behind (k .a) (k .b) x y lb l ends))
   last-by (is-u c la lb l) =
       let half = halves (k .b) lb in
       let behind = c-behind (k .a) (k .b) x y la lb ends in
       let e = even-half (k .b) in
-      let number : number-of (whole (k .a) (k .b)) (square x y) ≡ e * (k .a / 2) + (k .a * (k .b - e) + 0) + number-of (whole e (k .a - k .a / 2)) (square (e - 1 - y) (k .a - 1 - x)) =
-      area-cut (k .a) (k .b) (h .run) (h .side) (square x y) lb (in-c (k .a) (k .b) (square x y) c (behind .0) (here .run) (behind .1)) .0 in
+      let n = e * (k .a - k .a / 2) in
+      let rest : 1 ≤ k .a - k .a / 2 = omega arith in
+      let some : 1 * 1 ≤ n = mul-le-mul (half .pos) rest in
       let there = subst (All Last) (parts-are k UCut c) below .1 .1 .0 (e - 1 - y) (k .a - 1 - x) (c-ends (k .a) (k .b) x y la lb l ends) in
-      let all = u-areas e (k .a / 2) (k .a) (k .b) (omega arith) (omega arith) in
-      omega arith
+      let sum = u-areas e (k .a / 2) (k .a) (k .b) (omega arith) (omega arith) in
+      ap (square-of (whole (k .a) (k .b))) (last-of (e * (k .a / 2) + (k .a * (k .b - e) + 0)) n (k .a * k .b) (omega arith) some)
+      ∙ area-at-part (k .a) (k .b) (h .run) (h .side) (A ∷ B ∷ []) C [] (ap parts-of c) (n - 1) (omega arith)
+      ∙ ap (inner C (k .a) (k .b)) there
+      ∙ ap₂ square (omega arith) (omega arith)
 
 -- The curve of an area ends at the square that its lengths say.
-pub last-number : (w h x y : ℕ) → 1 ≤ w → 1 ≤ h → Ends w h x y → number-of (whole w h) (square x y) + 1 ≡ w * h
-unfolding whole
-last-number w h x y lw lh e =
-    induction Last (λ k sized below x y e. last-by k sized x y e below (chosen k sized)) (whole w h) (record { run = lw; side = lh }) x y e
-
 pub last-square : (w h x y : ℕ) → 1 ≤ w → 1 ≤ h → Ends w h x y → square-of (whole w h) (w * h - 1) ≡ square x y
+unfolding whole
 last-square w h x y lw lh e =
-    let number = last-number w h x y lw lh e in
-    let is : w * h - 1 ≡ number-of (whole w h) (square x y) = omega arith in
-    ap (square-of (whole w h)) is ∙ square-of-number w h (whole w h) (whole-inside w h lw lh) (square x y) (whole-holds w h (square x y) (ends-within w h x y lh e))
+    induction Last (λ k sized below x y e. last-by k sized x y e below (chosen k sized)) (whole w h) (record { run = lw; side = lh }) x y e
 
 -- Every area ends in one of the ways; so the finish square (w - 1, 0) is the last but for the first two of them, 1 by 1 aside.
 pub ends : (w h : ℕ) → 1 ≤ w → 1 ≤ h → (x : ℕ) × (y : ℕ) × Ends w h x y

@@ -11,7 +11,7 @@ use lib.ListN.{length, getD, List·getD-append}
 use lib.Seq.{getD-append-add}
 use Rattle.division.specs.Division.{Square, square, Direction, Block, parts, moved, row, curve, holds, one, count, blocks-holding, same, place-in, square-of, number-of}
 use Rattle.division.specs.Division.Inside.{Sized, Inside}
-use Rattle.division.specs.Division.Rules.{All, All-map}
+use Rattle.division.specs.Division.Rules.{All, All-map, Smaller, smaller}
 use Rattle.division.proofs.Cases.{Cut, Shape, in-run, in-side, cut, shape}
 use Rattle.division.proofs.Plane.{one-le, moved-add, moved-none}
 use Rattle.division.proofs.Sums.{total, total-all, total-append, count-joined, length-joined, flatten-append, none-of, all-left, all-right}
@@ -25,27 +25,27 @@ abbrev holding : Square → Block → ℕ
 holding p j = one (holds j p)
 
 -- the parts of a cut block, with one of them marked off from those before and after it
-module _ (w h : ℕ) (k : Block) (i : Inside w h k) (before : List Block) (q : Block) (after : List Block) (e : parts k ≡ before ++ (q ∷ after)) where
+module _ (k : Block) (z : Sized k) (before : List Block) (q : Block) (after : List Block) (e : parts k ≡ before ++ (q ∷ after)) where
   not-straight : parts k ≡ [] → ⊥
-  not-straight z = empty before (sym e ∙ z)
+  not-straight none = empty before (sym e ∙ none)
     where
       empty : (xs : List Block) → xs ++ (q ∷ after) ≡ [] → ⊥
       empty [] f = absurd (mathlib.Core.List.cons-ne-nil q after f)
       empty (x ∷ xs) f = absurd (mathlib.Core.List.cons-ne-nil x (xs ++ (q ∷ after)) f)
 
   is-cut : Shape k → Cut k
-  is-cut (in-run b z c) = absurd (not-straight z)
-  is-cut (in-side a z c) = absurd (not-straight z)
+  is-cut (in-run b none c) = absurd (not-straight none)
+  is-cut (in-side a none c) = absurd (not-straight none)
   is-cut (cut t c) = t
 
-  the-cut : Cut k
-  the-cut = is-cut (shape k (i .sized))
+  pub the-cut : Cut k
+  the-cut = is-cut (shape k z)
 
-  all-inside : All (Inside w h) (before ++ (q ∷ after))
-  all-inside = subst (All (Inside w h)) e (inside-parts w h k i the-cut)
+  all-smaller : All (Smaller k) (before ++ (q ∷ after))
+  all-smaller = subst (All (Smaller k)) e (smaller k z)
 
-  pub part-inside : Inside w h q
-  part-inside = all-right (Inside w h) before (q ∷ after) all-inside .0
+  pub part-smaller : Smaller k q
+  part-smaller = all-right (Smaller k) before (q ∷ after) all-smaller .0
 
   -- the parts before it leave it its room
   pub skip-fits : total area before + area q ≤ area k
@@ -54,27 +54,44 @@ module _ (w h : ℕ) (k : Block) (i : Inside w h k) (before : List Block) (q : B
       sym (total-append area before (q ∷ after)) ∙ ap (total area) (sym e) ∙ areas k the-cut in
       omega arith
 
-  joined : Shape k → curve k ≡ flatten (map curve before) ++ (curve q ++ flatten (map curve after))
+  joined-by : Shape k → curve k ≡ flatten (map curve before) ++ (curve q ++ flatten (map curve after))
   unfolding flatten
-  joined (in-run b z c) = absurd (not-straight z)
-  joined (in-side a z c) = absurd (not-straight z)
-  joined (cut t c) = c ∙ ap (λ qs. flatten (map curve qs)) e ∙ flatten-append curve before (q ∷ after)
+  joined-by (in-run b none c) = absurd (not-straight none)
+  joined-by (in-side a none c) = absurd (not-straight none)
+  joined-by (cut t c) = c ∙ ap (λ qs. flatten (map curve qs)) e ∙ flatten-append curve before (q ∷ after)
 
-  lengths : (qs : List Block) → All (Inside w h) qs → length (flatten (map curve qs)) ≡ total area qs
+  joined : curve k ≡ flatten (map curve before) ++ (curve q ++ flatten (map curve after))
+  joined = joined-by (shape k z)
+
+  lengths : (qs : List Block) → All (Smaller k) qs → length (flatten (map curve qs)) ≡ total area qs
   lengths qs all = length-joined curve qs ∙ total-all (λ j. length (curve j)) area qs (All-map (λ j s. length-curve j (s .sized)) qs all)
 
   skip-length : length (flatten (map curve before)) ≡ total area before
-  skip-length = lengths before (all-left (Inside w h) before (q ∷ after) all-inside)
+  skip-length = lengths before (all-left (Smaller k) before (q ∷ after) all-smaller)
 
   -- the square of a number of the part
-  pub square-in : (n : ℕ) → n < area q → square-of k (total area before + n) ≡ square-of q n
+  pub in-part : (n : ℕ) → n < area q → square-of k (total area before + n) ≡ square-of q n
   unfolding square-of
-  square-in n l =
+  in-part n l =
       let start = flatten (map curve before) in
       let rest = flatten (map curve after) in
-      ap₂ (λ zs m. getD zs m (square 0 0)) (joined (shape k (i .sized))) (ap (λ m. m + n) (sym skip-length))
+      ap₂ (λ zs m. getD zs m (square 0 0)) joined (ap (λ m. m + n) (sym skip-length))
       ∙ getD-append-add start (curve q ++ rest) n (square 0 0)
-      ∙ List·getD-append (curve q) rest (square 0 0) n (subst⁻¹ (λ (m : ℕ). n < m) (length-curve q (part-inside .sized)) l)
+      ∙ List·getD-append (curve q) rest (square 0 0) n (subst⁻¹ (λ (m : ℕ). n < m) (length-curve q (part-smaller .sized)) l)
+
+-- and where the block lies within an area
+module _ (w h : ℕ) (k : Block) (i : Inside w h k) (before : List Block) (q : Block) (after : List Block) (e : parts k ≡ before ++ (q ∷ after)) where
+  cut-here : Cut k
+  cut-here = the-cut k (i .sized) before q after e
+
+  all-inside : All (Inside w h) (before ++ (q ∷ after))
+  all-inside = subst (All (Inside w h)) e (inside-parts w h k i cut-here)
+
+  pub part-inside : Inside w h q
+  part-inside = all-right (Inside w h) before (q ∷ after) all-inside .0
+
+  pub square-in : (n : ℕ) → n < area q → square-of k (total area before + n) ≡ square-of q n
+  square-in n l = in-part k (i .sized) before q after e n l
 
   module _ (p : Square) (held : holds q p ≡ true) where
     -- the block holds the square, and no part before or after it does
@@ -82,7 +99,7 @@ module _ (w h : ℕ) (k : Block) (i : Inside w h k) (before : List Block) (q : B
     alone =
         let here : holding p q ≡ 1 = ap one held in
         let sum : total (holding p) before + (holding p q + total (holding p) after) ≡ one (holds k p) =
-        sym (total-append (holding p) before (q ∷ after)) ∙ ap (total (holding p)) (sym e) ∙ holds-parts w h k i the-cut p in
+        sym (total-append (holding p) before (q ∷ after)) ∙ ap (total (holding p)) (sym e) ∙ holds-parts w h k i cut-here p in
         let most = one-le (holds k p) in
         (omega arith, omega arith, omega arith)
 
@@ -97,9 +114,9 @@ module _ (w h : ℕ) (k : Block) (i : Inside w h k) (before : List Block) (q : B
         (All-map (λ j s. once w h j s p) before (all-left (Inside w h) before (q ∷ after) all-inside))
         ∙ alone .0 in
         let here : count (same p) (curve q) ≡ 1 = once w h q part-inside p ∙ ap one held in
-        ap (λ zs. place-in zs p) (joined (shape k (i .sized)))
+        ap (λ zs. place-in zs p) (joined k (i .sized) before q after e)
         ∙ place-right p start (curve q ++ rest) not-before
-        ∙ ap₂ _+_ skip-length (place-left p (curve q) rest (omega arith))
+        ∙ ap₂ _+_ (skip-length k (i .sized) before q after e) (place-left p (curve q) rest (omega arith))
 
     pub holding-in : blocks-holding k p ≡ suc (blocks-holding q p)
     holding-in =

@@ -7,4 +7,5 @@ pub mod Places
 pub mod Blocks
 pub mod Descent
 pub mod Local
+pub mod Squares
 pub mod Walks

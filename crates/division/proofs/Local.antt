@@ -14,14 +14,14 @@ use lib.Seq.{ext-getD}
 use Rattle.division.specs.declared.Choice.the-variants.{StraightRun, StraightSide, LongCut, UCut}
 use Rattle.division.specs.Division.{Square, square, Direction, Block, whole, choice, even-half, Part, First, Second, A, B, C, part, parts, parts-of, moved, against, within, holds, curve, blocks-holding, square-of, number-of}
 use Rattle.division.specs.Division.Inside.{Sized, Paired, x-y, y-x, x-y-back, y-x-back, Room, Inside}
-use Rattle.division.specs.Division.Rules.{All, halves, Chosen, is-run, is-side, is-long, is-u, chosen, parts-are, Smaller, smaller}
+use Rattle.division.specs.Division.Rules.{All, halves, Chosen, is-run, is-side, is-long, is-u, chosen, parts-are, Smaller}
 use Rattle.division.proofs.Cases.{induction, rule}
 use Rattle.division.proofs.Plane.{turned, moved-add, moved-swap, moved-back, moved-none, room-across, room-first, within-moved, within-aside}
 use Rattle.division.proofs.Sums.{total, all-right}
 use Rattle.division.proofs.Cuts.{area}
 use Rattle.division.proofs.Once.{length-curve, square-held, square-of-number, number-of-square}
 use Rattle.division.proofs.Blocks.{whole-inside}
-use Rattle.division.proofs.Descent.{skip-fits, run-square, side-square, straight-holding, part-inside, number-in, holding-in}
+use Rattle.division.proofs.Descent.{skip-fits, part-smaller, run-square, side-square, straight-holding, part-inside, number-in, holding-in}
 
 not-lt : {m n : ℕ} → ¬ (m < n) → n ≤ m
 not-lt f = omega arith
@@ -42,7 +42,7 @@ inner A a b s = square (s .y) (s .x)
 inner B a b s = square (s .x) (even-half b + s .y)
 inner C a b s = square (a - 1 - s .y) (even-half b - 1 - s .x)
 
-spot-whole : (a b : ℕ) (s : Square) → spot (whole a b) s ≡ s
+pub spot-whole : (a b : ℕ) (s : Square) → spot (whole a b) s ≡ s
 unfolding spot whole moved
 spot-whole a b s = λ i. record { x = zero-add (s .x) i; y = zero-add (s .y) i }
 
@@ -61,7 +61,7 @@ module _ (w h : ℕ) (k : Block) (i : Inside w h k) where
       rw (along, across)
 
   -- a part's (u, v) is the block's `inner` of it
-  spot-part : (p : Part) (s : Square) → 2 ≤ k .b → Within (part p k .a) (part p k .b) s → spot (part p k) s ≡ spot k (inner p (k .a) (k .b) s)
+  pub spot-part : (p : Part) (s : Square) → 2 ≤ k .b → Within (part p k .a) (part p k .b) s → spot (part p k) s ≡ spot k (inner p (k .a) (k .b) s)
   unfolding spot part inner
   spot-part First s b l = refl
   spot-part Second s b l = ap (moved (k .side) (s .y)) (moved-add (k .run) (even-half (k .a)) (s .x) (k .start))
@@ -178,7 +178,7 @@ part-whole j C = refl
 unfoldable pub squares-of : ℕ → ℕ → List Part → ℕ
 squares-of a b ps = total (λ p. area (part p (whole a b))) ps
 
-squares-in : (j : Block) (ps : List Part) → total area (map (λ p. part p j) ps) ≡ squares-of (j .a) (j .b) ps
+pub squares-in : (j : Block) (ps : List Part) → total area (map (λ p. part p j) ps) ≡ squares-of (j .a) (j .b) ps
 unfolding squares-of whole
 squares-in j [] = refl
 squares-in j (p ∷ ps) = ap₂ _+_ (ap area (part-whole j p)) (squares-in j ps)
@@ -218,10 +218,15 @@ module _ (w h : ℕ) (k : Block) (i : Inside w h k) (s : Square) (l : Within (k 
         holding-is = straight-holding k (spot k s) (i .sized) (parts-are k StraightSide e) (spot-held w h k i s l);
       }
 
+-- a cut block's parts by their names
+pub named-parts : (j : Block) (before : List Part) (p : Part) (after : List Part) → parts-of (choice (j .a) (j .b)) ≡ before ++ (p ∷ after)
+    → parts j ≡ map (λ p. part p j) before ++ (part p j ∷ map (λ p. part p j) after)
+unfolding parts
+named-parts j before p after e = ap (map (λ p. part p j)) e ∙ map-append (λ p. part p j) before (p ∷ after)
+
 lies-parts : (j : Block) (s : Square) (lies : Lies (j .a) (j .b) s)
     → parts j ≡ map (λ p. part p j) (lies .before) ++ (part (lies .name) j ∷ map (λ p. part p j) (lies .after))
-unfolding parts
-lies-parts j s lies = ap (map (λ p. part p j)) (lies .are) ∙ map-append (λ p. part p j) (lies .before) (lies .name ∷ lies .after)
+lies-parts j s lies = named-parts j (lies .before) (lies .name) (lies .after) (lies .are)
 
 lies-within : (j : Block) (s : Square) (lies : Lies (j .a) (j .b) s) → Within (part (lies .name) j .a) (part (lies .name) j .b) (lies .there)
 unfolding whole
@@ -236,7 +241,7 @@ module _ (w h : ℕ) (j : Block) (i : Inside w h j) (two : 2 ≤ j .b) (s : Squa
   pub lies-fits : squares-of (j .a) (j .b) (lies .before) + area (part (lies .name) j) ≤ area j
   lies-fits =
       subst (λ (n : ℕ). n + area (part (lies .name) j) ≤ area j) (squares-in j (lies .before))
-      (skip-fits w h j i (map (λ p. part p j) (lies .before)) (part (lies .name) j) (map (λ p. part p j) (lies .after)) (lies-parts j s lies))
+      (skip-fits j (i .sized) (map (λ p. part p j) (lies .before)) (part (lies .name) j) (map (λ p. part p j) (lies .after)) (lies-parts j s lies))
 
   cut-answer : (n m : ℕ) → Answer (part (lies .name) j) (lies .there) n m → Answer j s (squares-of (j .a) (j .b) (lies .before) + n) (suc m)
   cut-answer n m answer =
@@ -253,9 +258,7 @@ module _ (w h : ℕ) (j : Block) (i : Inside w h j) (two : 2 ≤ j .b) (s : Squa
 
 -- the part is smaller than the block
 pub lies-smaller : (j : Block) → Sized j → (s : Square) (lies : Lies (j .a) (j .b) s) → Smaller j (part (lies .name) j)
-lies-smaller j z s lies =
-    all-right (Smaller j) (map (λ p. part p j) (lies .before)) (part (lies .name) j ∷ map (λ p. part p j) (lies .after))
-    (subst (All (Smaller j)) (lies-parts j s lies) (smaller j z)) .0
+lies-smaller j z s lies = part-smaller j z (map (λ p. part p j) (lies .before)) (part (lies .name) j) (map (λ p. part p j) (lies .after)) (lies-parts j s lies)
 
 -- every (u, v) of a cut block lies in a part
 lies-long : (a b : ℕ) (s : Square) → Within a b s → choice a b ≡ LongCut → Lies a b s

@@ -1,6 +1,6 @@
 -- A walk over a block part by part: each part has its room, its area is less, and the parts' squares in order are the block's.
 use mathlib.Core.List.{List, [], _∷_, _++_, map, map-append}
-use mathlib.Core.Path.{_≡_, refl, sym, ap, subst, subst⁻¹, _∙_}
+use mathlib.Core.Path.{_≡_, refl, sym, ap, subst⁻¹, _∙_}
 use Prim.Native.Nat.{ℕ, _+_, _-_, _*_, _/_, _≤_, _<_}
 use native.Mathlib.Nat.{mul-comm, mul-le-mul, mul-le-mul-right}
 use native.Mathlib.Omega.{arith}
@@ -9,14 +9,14 @@ use Rattle.division.specs.declared.Choice.the-variants.{StraightRun, StraightSi
 use Rattle.division.specs.declared.Placed.{Placed}
 use Rattle.division.specs.Division.{Square, Block, choice, even-half, First, Second, A, B, C, part, parts, parts-of, curve}
 use Rattle.division.specs.Division.Inside.{Sized}
-use Rattle.division.specs.Division.Rules.{All, Smaller, smaller, parts-are, halves}
+use Rattle.division.specs.Division.Rules.{parts-are, halves}
 use Rattle.division.specs.Forms.{block}
 use Rattle.division.proofs.Cases.{rule, long-lengths, u-lengths, side-length}
 use Rattle.division.proofs.Plane.{turned}
-use Rattle.division.proofs.Sums.{total, all-right}
+use Rattle.division.proofs.Sums.{total}
 use Rattle.division.proofs.Cuts.{area}
 use Rattle.division.proofs.Once.{length-curve}
-use Rattle.division.proofs.Descent.{part-inside, skip-fits}
+use Rattle.division.proofs.Descent.{part-inside, part-smaller, skip-fits}
 use Rattle.division.proofs.Walks.{Sums-fit, sums-fit}
 use Rattle.leaves.specs.Walk.{place, over, over-block, exchanged, Fits}
 use Rattle.leaves.proofs.Entries.{over-append}
@@ -28,11 +28,10 @@ module _ {w h : ℕ} {t : List ℕ} {k : Block} {at : ℕ} (f : Fits w h t k at)
       → (3 * (r .a * r .b) + 2 < 3 * (k .a * k .b)) × Fits w h t′ (block r) on
   call t′ same on is r there =
       let inside = part-inside w h k (f .inside) before q after e in
-      let less : Smaller k q = all-right (Smaller k) before (q ∷ after) (subst (All (Smaller k)) e (smaller k (f .inside .sized))) .0 in
-      let thirds = less .two-thirds in
+      let thirds = part-smaller k (f .inside .sized) before q after e .two-thirds in
       let some : 1 * 1 ≤ area q = mul-le-mul (inside .sized .run) (inside .sized .side) in
       let squares : r .a * r .b ≡ area q = ap area there in
-      let fits = skip-fits w h k (f .inside) before q after e in
+      let fits = skip-fits k (f .inside .sized) before q after e in
       let room = f .room in (
         omega arith,
         subst⁻¹ (λ (b : Block). Fits w h t′ b on) there
