@@ -11,7 +11,7 @@ use lib.Dec.{eqb}
 use Rattle.division.specs.declared.Choice.the-variants.{LongCut, UCut}
 use Rattle.division.specs.Division.{square, Block, whole, even-half, First, Second, A, B, C, part, parts, parts-of, square-of}
 use Rattle.division.specs.Division.Inside.{Sized}
-use Rattle.division.specs.Division.Rules.{All, Chosen, is-run, is-side, is-long, is-u, chosen, halves, parts-are}
+use Rattle.division.proofs.Rules.{All, Chosen, is-run, is-side, is-long, is-u, chosen, halves, parts-are}
 use Rattle.division.proofs.Cases.{induction}
 use Rattle.division.proofs.Cuts.{long-areas, u-areas}
 use Rattle.division.proofs.Local.{inner, squares-of}

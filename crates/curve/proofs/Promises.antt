@@ -13,7 +13,7 @@ use Rattle.terms.proofs.Laws.{limits, named, named-back, refusal-some, refusal-
 use Rattle.terms.proofs.Ones.{by-figures}
 use Rattle.division.specs.declared.Choice.the-variants.{UCut}
 use Rattle.division.specs.Division.{Square, square, whole, choice, parts-of, square-of, number-of, blocks-holding}
-use Rattle.division.specs.Division.Rules.{parts-are}
+use Rattle.division.proofs.Rules.{parts-are}
 use Rattle.division.proofs.Cases.{in-three}
 use Rattle.division.proofs.Once.{square-held, number-below, square-of-number, number-of-square}
 use Rattle.division.proofs.Blocks.{whole-inside, at-most-54, demand-3, cut-holding}

@@ -11,7 +11,7 @@ use Rattle.division.specs.declared.Choice.the-variants.{StraightRun, StraightSi
 use Rattle.division.specs.declared.Placed.{Placed}
 use Rattle.division.specs.Division.{Square, square, moved, Block, whole, choice, even-half, First, Second, A, B, C, part, parts, parts-of, square-of, blocks-holding}
 use Rattle.division.specs.Division.Inside.{Inside}
-use Rattle.division.specs.Division.Rules.{All, Smaller, smaller, parts-are, halves}
+use Rattle.division.proofs.Rules.{All, Smaller, smaller, parts-are, halves}
 use Rattle.division.specs.Forms.{block, block-at, stepped-to, Steps}
 use Rattle.division.proofs.Cases.{long-lengths, u-lengths, run-length, side-length, rule}
 use Rattle.division.proofs.Sums.{total, all-right}

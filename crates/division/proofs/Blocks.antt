@@ -13,7 +13,7 @@ use lib.Dec.{lit<, lit≤}
 use lib.ListN.{length}
 use Rattle.division.specs.Division.{Square, Block, whole, parts, blocks, holds, one, count, blocks-holding}
 use Rattle.division.specs.Division.Inside.{Sized, x-y, Inside}
-use Rattle.division.specs.Division.Rules.{All, All-map, Smaller, smaller, blocks-rule}
+use Rattle.division.proofs.Rules.{All, All-map, Smaller, smaller, blocks-rule}
 use Rattle.division.proofs.Cases.{induction, Cut, in-two, in-three, Shape, in-run, in-side, cut, shape}
 use Rattle.division.proofs.Plane.{one-le}
 use Rattle.division.proofs.Sums.{total, count-joined, length-joined, all-joined, none-of, one-of, total-le, All-use}

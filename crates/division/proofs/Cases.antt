@@ -9,7 +9,7 @@ use Rattle.division.specs.declared.Choice.{Choice}
 use Rattle.division.specs.declared.Choice.the-variants.{StraightRun, StraightSide, LongCut, UCut}
 use Rattle.division.specs.Division.{Block, choice, First, Second, A, B, C, part, parts, parts-of, row, curve-by, curve, blocks}
 use Rattle.division.specs.Division.Inside.{Sized}
-use Rattle.division.specs.Division.Rules.{All, All-map, Chosen, is-run, is-side, is-long, is-u, chosen, parts-are, smaller, curve-rule, blocks-rule}
+use Rattle.division.proofs.Rules.{All, All-map, Chosen, is-run, is-side, is-long, is-u, chosen, parts-are, smaller, curve-rule, blocks-rule}
 
 -- what a case says of the lengths: a straight block has one length 1, and one that is cut has both from 2 on
 tag : Choice → ℕ

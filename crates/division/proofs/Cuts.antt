@@ -6,7 +6,7 @@ use native.Mathlib.Nat.{add-zero, mul-add, add-mul, mul-comm}
 use native.Mathlib.Omega.{arith}
 use Rattle.division.specs.Division.{Square, Block, even-half, First, Second, A, B, C, part, parts, moved, within, holds, one}
 use Rattle.division.specs.Division.Inside.{Inside}
-use Rattle.division.specs.Division.Rules.{All, halves}
+use Rattle.division.proofs.Rules.{All, halves}
 use Rattle.division.proofs.Cases.{Cut, in-two, in-three}
 use Rattle.division.proofs.Plane.{turned, reversed, moved-add, moved-swap, room-on, room-back, room-across, room-first, one-and, one-le, min-split, within-cut, within-back, within-across}
 use Rattle.division.proofs.Sums.{total}

@@ -11,7 +11,7 @@ use lib.ListN.{length, getD, List·getD-append}
 use lib.Seq.{getD-append-add}
 use Rattle.division.specs.Division.{Square, square, Direction, Block, parts, moved, row, curve, holds, one, count, blocks-holding, same, place-in, square-of, number-of}
 use Rattle.division.specs.Division.Inside.{Sized, Inside}
-use Rattle.division.specs.Division.Rules.{All, All-map, Smaller, smaller}
+use Rattle.division.proofs.Rules.{All, All-map, Smaller, smaller}
 use Rattle.division.proofs.Cases.{Cut, Shape, in-run, in-side, cut, shape}
 use Rattle.division.proofs.Plane.{one-le, moved-add, moved-none}
 use Rattle.division.proofs.Sums.{total, total-all, total-append, count-joined, length-joined, flatten-append, none-of, all-left, all-right}

@@ -1,3 +1,5 @@
+pub mod Rules
+pub mod Small
 pub mod Cases
 pub mod Plane
 pub mod Sums

@@ -14,7 +14,7 @@ use lib.Seq.{ext-getD}
 use Rattle.division.specs.declared.Choice.the-variants.{StraightRun, StraightSide, LongCut, UCut}
 use Rattle.division.specs.Division.{Square, square, Direction, Block, whole, choice, even-half, Part, First, Second, A, B, C, part, parts, parts-of, moved, against, within, holds, curve, blocks-holding, square-of, number-of}
 use Rattle.division.specs.Division.Inside.{Sized, Paired, x-y, y-x, x-y-back, y-x-back, Room, Inside}
-use Rattle.division.specs.Division.Rules.{All, halves, Chosen, is-run, is-side, is-long, is-u, chosen, parts-are, Smaller}
+use Rattle.division.proofs.Rules.{All, halves, Chosen, is-run, is-side, is-long, is-u, chosen, parts-are, Smaller}
 use Rattle.division.proofs.Cases.{induction, rule}
 use Rattle.division.proofs.Plane.{turned, moved-add, moved-swap, moved-back, moved-none, room-across, room-first, within-moved, within-aside}
 use Rattle.division.proofs.Sums.{total, all-right}

@@ -8,7 +8,7 @@ use native.Mathlib.Nat.{add-assoc, eq-zero-or-pos}
 use native.Mathlib.Omega.{arith}
 use lib.ListN.{length, length-append}
 use Rattle.division.specs.Division.{one, count}
-use Rattle.division.specs.Division.Rules.{All}
+use Rattle.division.proofs.Rules.{All}
 
 -- the sum of f over a list
 abbrev pub total : {X : Type 0} → (X → ℕ) → List X → ℕ

@@ -11,7 +11,7 @@ use Rattle.division.specs.declared.Placed.{Placed}
 use Rattle.division.specs.declared.Spot.{Spot}
 use Rattle.division.specs.Division.{Square, square, Direction, +x, +y, -x, -y, Block, even-half, First, Second, A, B, C, part, moved, against}
 use Rattle.division.specs.Division.Inside.{Room, Inside}
-use Rattle.division.specs.Division.Rules.{halves}
+use Rattle.division.proofs.Rules.{halves}
 use Rattle.division.specs.Forms.{direction, block, block-at, stepped-to, Steps, entered}
 use Rattle.division.proofs.Cuts.{u-areas}
 

@@ -22,8 +22,6 @@ use Rattle.division.specs.declared.Choice.the-variants.{StraightRun, Str
 pub mod Worked
 pub mod Telling
 pub mod Inside
-pub mod Rules
-pub mod Small
 
 -- "Squares are (x, y)."
 pub record Square : Type 0 where
@@ -123,15 +121,15 @@ curve-by UCut k curves = flatten curves
 
 -- What `of` makes of a block from what it makes of the block's parts in order, n cuts deep at most. With each cut the sum of the lengths falls,
 -- so that a + b cuts are deep enough.
-down : {R : Type 0} → (Block → List R → R) → ℕ → Block → R
+unfoldable pub down : {R : Type 0} → (Block → List R → R) → ℕ → Block → R
 down of zero k = of k []
 down of (suc n) k = of k (map (down of n) (parts k))
 
-pub curve : Block → List Square
+unfoldable pub curve : Block → List Square
 curve k = down (λ j curves. curve-by (choice (j .a) (j .b)) j curves) (k .a + k .b) k
 
 -- "The blocks of the division are the whole, its parts, their parts, and so on down to the straight ones."
-pub blocks : Block → List Block
+unfoldable pub blocks : Block → List Block
 blocks k = down (λ j below. j ∷ flatten below) (k .a + k .b) k
 
 -- A square lies within n squares from s in direction d, s counted, as far as that direction's coordinate goes. A block holds what lies within its

@@ -9,7 +9,7 @@ use Rattle.division.specs.declared.Choice.the-variants.{StraightRun, StraightSi
 use Rattle.division.specs.declared.Placed.{Placed}
 use Rattle.division.specs.Division.{Square, Block, choice, even-half, First, Second, A, B, C, part, parts, parts-of, curve}
 use Rattle.division.specs.Division.Inside.{Sized}
-use Rattle.division.specs.Division.Rules.{parts-are, halves}
+use Rattle.division.proofs.Rules.{parts-are, halves}
 use Rattle.division.specs.Forms.{block}
 use Rattle.division.proofs.Cases.{rule, long-lengths, u-lengths, side-length}
 use Rattle.division.proofs.Plane.{turned}

@@ -9,7 +9,7 @@ use native.Mathlib.Omega.{arith}
 use borrow.Author.Tests.{eqb-true, eqb-false, eq-eqb, ne-eqb}
 use lib.Dec.{eqb, lit≤, lit<}
 use lib.ListN.{length, getD}
-use Rattle.division.specs.Division.Small.{blocks-two}
+use Rattle.division.proofs.Small.{blocks-two}
 use Rattle.terms.specs.declared.Refusal.the-variants.{TableLength}
 use Rattle.terms.specs.Terms.{accepted, area-refusal, Figures, answered, refused}
 use Rattle.terms.proofs.Laws.{limits, named, named-back, refusal-some, refusal-not-0, value}

@@ -6,7 +6,7 @@ use Prim.Native.Nat.{ℕ, _-_, _*_}
 use native.Mathlib.Omega.{arith}
 use lib.Dec.{leb}
 use Rattle.division.specs.Division.{Block, even-half, First, Second, part}
-use Rattle.division.specs.Division.Rules.{halves}
+use Rattle.division.proofs.Rules.{halves}
 use Rattle.division.specs.Forms.{block}
 use Rattle.division.proofs.Cases.{long-lengths}
 use Rattle.division.proofs.Walks.{a-limit, b-limit, product-limit}

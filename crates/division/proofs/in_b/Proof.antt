@@ -1,7 +1,7 @@
 -- `division::in_b` meets its contract: v is counted from the even half of the side on.
 use borrow.Author.Needs.{needs}
 use native.Mathlib.Omega.{arith}
-use Rattle.division.specs.Division.Rules.{halves}
+use Rattle.division.proofs.Rules.{halves}
 use Rattle.division.proofs.in_b.Statement.{statement}
 use Rattle.division.proofs.in_b.Tie as tie
 

@@ -1,7 +1,7 @@
 -- `division::in_long` meets its contract: what is taken off u is 0 in the first part, and the even half, at most u, in the second.
 use borrow.Author.Needs.{needs}
 use native.Mathlib.Omega.{arith}
-use Rattle.division.specs.Division.Rules.{halves}
+use Rattle.division.proofs.Rules.{halves}
 use Rattle.division.proofs.Walks.{long-spot, skip-within}
 use Rattle.division.proofs.in_long.Statement.{statement}
 use Rattle.division.proofs.in_long.Tie as tie

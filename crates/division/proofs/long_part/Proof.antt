@@ -5,7 +5,7 @@ use mathlib.Core.Bool.{Bool, true, false, cond}
 use mathlib.Core.Path.{_≡_}
 use Prim.Native.Nat.{ℕ, _≤_, _<_}
 use Rattle.division.specs.Division.{even-half}
-use Rattle.division.specs.Division.Rules.{halves}
+use Rattle.division.proofs.Rules.{halves}
 use Rattle.division.specs.Forms.{block}
 use Rattle.division.proofs.Cases.{long-lengths}
 use Rattle.division.proofs.Walks.{steps-along, long-block}

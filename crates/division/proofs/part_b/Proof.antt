@@ -1,7 +1,7 @@
 -- `division::part_b` meets its contract: the even half is less than the side, so the step across the run stays within the area.
 use borrow.Author.Needs.{needs}
 use native.Mathlib.Omega.{arith}
-use Rattle.division.specs.Division.Rules.{halves}
+use Rattle.division.proofs.Rules.{halves}
 use Rattle.division.specs.Forms.{block}
 use Rattle.division.proofs.Cases.{u-lengths}
 use Rattle.division.proofs.Walks.{steps-across, b-block}

@@ -1,5 +1,5 @@
 -- The rules of the division as laws, with no bound on how deep the cuts go: what the curve and the blocks of a block are, from those of its parts.
--- A sized block has both lengths at least 1. They stand beside the definitions, since the bound can be opened only here.
+-- A sized block has both lengths at least 1. By induction over the depth: with each cut the sum of the lengths falls, so that deeper changes nothing.
 use mathlib.Core.Bool.{Bool, true, false, _&&_, cond}
 use mathlib.Core.List.{List, [], _∷_, map, flatten}
 use mathlib.Core.Path.{_≡_, refl, ap, ap₂, subst⁻¹}

@@ -1,5 +1,4 @@
 -- The small blocks that a walk takes at once, 2 wide and 2 or 3 deep: the squares of such an area, and the blocks of any such block, which compute.
--- Laws of the definitions; they render no sentence of document 01.
 use mathlib.Core.List.{[], _∷_}
 use mathlib.Core.Path.{_≡_, refl}
 use lib.ListN.{length}
