@@ -57,7 +57,8 @@ pub few-blocks : (k : Block) → Sized k → length (blocks k) + 1 ≤ 2 * area 
 few-blocks = induction (λ k. length (blocks k) + 1 ≤ 2 * area k) (λ k h all. few-step k h all (shape k h))
 
 -- every block of the division lies within the area, with one of the four pairs of directions
-inside-step : (w h : ℕ) (k : Block) → Sized k → All (λ q. Inside w h q → All (Inside w h) (blocks q)) (parts k) → Inside w h k → Shape k → All (Inside w h) (flatten (map blocks (parts k)))
+inside-step : (w h : ℕ) (k : Block) → Sized k → All (λ q. Inside w h q → All (Inside w h) (blocks q)) (parts k) → Inside w h k → Shape k
+    → All (Inside w h) (flatten (map blocks (parts k)))
 unfolding flatten
 inside-step w h k s all i (in-run b e c) = rw e tt
 inside-step w h k s all i (in-side a e c) = rw e tt

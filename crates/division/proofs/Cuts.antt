@@ -5,10 +5,11 @@ use Prim.Native.Nat.{ℕ, _+_, _-_, _*_, _/_, _≤_, min}
 use native.Mathlib.Nat.{add-zero, mul-add, add-mul, mul-comm}
 use native.Mathlib.Omega.{arith}
 use Rattle.division.specs.Division.{Square, Block, even-half, First, Second, A, B, C, part, parts, moved, within, holds, one}
-use Rattle.division.specs.Division.Inside.{Inside}
+use Rattle.division.specs.Division.Inside.{Room, Inside}
 use Rattle.division.proofs.Rules.{All, halves}
 use Rattle.division.proofs.Cases.{Cut, in-two, in-three}
-use Rattle.division.proofs.Plane.{turned, reversed, moved-add, moved-swap, room-on, room-back, room-across, room-first, one-and, one-le, min-split, within-cut, within-back, within-across}
+use Rattle.division.proofs.Plane.{turned, reversed, moved-add, moved-swap, room-on, room-back, room-across, room-first}
+use Rattle.division.proofs.Plane.{one-and, one-le, min-split, within-cut, within-back, within-across}
 use Rattle.division.proofs.Sums.{total}
 
 abbrev pub area : Block → ℕ
@@ -85,17 +86,27 @@ module _ (w h : ℕ) (k : Block) (i : Inside w h k) where
         side = room-on w h (k .side) (even-half (k .b)) (k .b - even-half (k .b)) (k .b) (k .start) (i .side) (omega arith);
       }
 
+  -- the even half of the side has its room at the run's last square, too
+  pub last-room : 2 ≤ k .b → Room w h (k .side) (even-half (k .b)) (moved (k .run) (k .a - 1) (k .start))
+  last-room b =
+      let half = halves (k .b) b in
+      let e = even-half (k .b) in
+      room-across w h (turned (i .paired)) (k .a - 1) e (k .start) (room-first w h (k .side) e (k .b) (k .start) (i .side) (omega arith))
+
   c-inside : 2 ≤ k .a → 2 ≤ k .b → Inside w h (part C k)
   unfolding part
   c-inside a b =
       let half = halves (k .b) b in
       let e = even-half (k .b) in
       let last = moved (k .run) (k .a - 1) (k .start) in
+      let up = moved (k .side) (e - 1) (k .start) in
+      let up-room = room-across w h (i .paired) (e - 1) (k .a) (k .start) (i .run) in
       record {
         sized = omega arith;
         paired = reversed (turned (i .paired));
-        run = room-back w h (k .side) e e last (room-across w h (turned (i .paired)) (k .a - 1) e (k .start) (room-first w h (k .side) e (k .b) (k .start) (i .side) (omega arith))) (omega arith) (omega arith);
-        side = rw (moved-swap (turned (i .paired)) (e - 1) (k .a - 1) (k .start)) (room-back w h (k .run) (k .a - k .a / 2) (k .a) (moved (k .side) (e - 1) (k .start)) (room-across w h (i .paired) (e - 1) (k .a) (k .start) (i .run)) (omega arith) (omega arith));
+        run = room-back w h (k .side) e e last (last-room b) (omega arith) (omega arith);
+        side = rw (moved-swap (turned (i .paired)) (e - 1) (k .a - 1) (k .start))
+            (room-back w h (k .run) (k .a - k .a / 2) (k .a) up up-room (omega arith) (omega arith));
       }
 
   -- the run and the side of part C, each walked from its other end
@@ -105,10 +116,11 @@ module _ (w h : ℕ) (k : Block) (i : Inside w h k) where
       let half = halves (k .b) b in
       let e = even-half (k .b) in
       let last = moved (k .run) (k .a - 1) (k .start) in
-      within-back w h (k .side) e last p (room-across w h (turned (i .paired)) (k .a - 1) e (k .start) (room-first w h (k .side) e (k .b) (k .start) (i .side) (omega arith))) (omega arith)
+      within-back w h (k .side) e last p (last-room b) (omega arith)
       ∙ ap one (within-across (turned (i .paired)) (k .a - 1) e (k .start) p)
 
-  c-side : (p : Square) → 2 ≤ k .a → one (within (part C k .side) (part C k .b) (part C k .start) p) ≡ one (within (k .run) (k .a - k .a / 2) (moved (k .run) (k .a / 2) (k .start)) p)
+  c-side : (p : Square) → 2 ≤ k .a
+      → one (within (part C k .side) (part C k .b) (part C k .start) p) ≡ one (within (k .run) (k .a - k .a / 2) (moved (k .run) (k .a / 2) (k .start)) p)
   unfolding part
   c-side p a =
       let e = even-half (k .b) in
@@ -118,8 +130,9 @@ module _ (w h : ℕ) (k : Block) (i : Inside w h k) where
       let there : moved (k .side) (e - 1) (moved (k .run) (k .a - 1) (k .start)) ≡ moved (k .run) (n - 1) (moved (k .side) (e - 1) on) =
       ap (moved (k .side) (e - 1)) (ap (λ z. moved (k .run) z (k .start)) (omega arith) ∙ sym (moved-add (k .run) m (n - 1) (k .start)))
       ∙ moved-swap (turned (i .paired)) (e - 1) (n - 1) on in
+      let on-room = room-on w h (k .run) m n (k .a) (k .start) (i .run) (omega arith) in
       rw there
-      (within-back w h (k .run) n (moved (k .side) (e - 1) on) p (room-across w h (i .paired) (e - 1) n on (room-on w h (k .run) m n (k .a) (k .start) (i .run) (omega arith))) (omega arith)
+      (within-back w h (k .run) n (moved (k .side) (e - 1) on) p (room-across w h (i .paired) (e - 1) n on on-room) (omega arith)
       ∙ ap one (within-across (i .paired) (e - 1) n on p))
 
   -- each square of the block is in exactly one part
@@ -129,9 +142,11 @@ module _ (w h : ℕ) (k : Block) (i : Inside w h k) where
       let half = halves (k .a) a in
       let e = even-half (k .a) in
       let split = within-cut w h (k .run) e (k .a) (k .start) p (i .run) (half .less) in
+      let along = within (k .run) (k .a) (k .start) p in
+      let across = within (k .side) (k .b) (k .start) p in
       rw (within-across (turned (i .paired)) e (k .b) (k .start) p)
       (simp one-and
-      (ap (λ z. min (one (within (k .run) e (k .start) p)) (one (within (k .side) (k .b) (k .start) p)) + z) (add-zero _) ∙ min-split _ _ _ _ split (one-le (within (k .run) (k .a) (k .start) p)) (one-le (within (k .side) (k .b) (k .start) p))))
+      (ap (λ z. min (one (within (k .run) e (k .start) p)) (one across) + z) (add-zero _) ∙ min-split _ _ _ _ split (one-le along) (one-le across)))
 
   u-holds : (p : Square) → 2 ≤ k .a → 2 ≤ k .b → one (holds (part A k) p) + (one (holds (part B k) p) + (one (holds (part C k) p) + 0)) ≡ one (holds k p)
   unfolding part holds
@@ -139,8 +154,12 @@ module _ (w h : ℕ) (k : Block) (i : Inside w h k) where
       let half = halves (k .b) b in
       let e = even-half (k .b) in
       let m = k .a / 2 in
+      let run = within-cut w h (k .run) m (k .a) (k .start) p (i .run) (omega arith) in
+      let side = within-cut w h (k .side) e (k .b) (k .start) p (i .side) (half .less) in
+      let along = within (k .run) (k .a) (k .start) p in
+      let across = within (k .side) (k .b) (k .start) p in
       simp (one-and, c-run p b, c-side p a, within-across (i .paired) e (k .a) (k .start) p)
-      (u-counts _ _ _ _ _ _ (within-cut w h (k .run) m (k .a) (k .start) p (i .run) (omega arith)) (within-cut w h (k .side) e (k .b) (k .start) p (i .side) (half .less)) (one-le (within (k .run) (k .a) (k .start) p)) (one-le (within (k .side) (k .b) (k .start) p)))
+      (u-counts _ _ _ _ _ _ run side (one-le along) (one-le across))
 
 pub inside-parts : (w h : ℕ) (k : Block) → Inside w h k → Cut k → All (Inside w h) (parts k)
 inside-parts w h k i (in-two a b e) = subst⁻¹ (All (Inside w h)) e (first-inside w h k i a, (second-inside w h k i a, tt))

@@ -9,7 +9,8 @@ use native.Mathlib.Numerals.{one-add}
 use native.Mathlib.Omega.{arith}
 use lib.ListN.{length, getD, List·getD-append}
 use lib.Seq.{getD-append-add}
-use Rattle.division.specs.Division.{Square, square, Direction, Block, parts, moved, row, curve, holds, one, count, blocks-holding, same, place-in, square-of, number-of}
+use Rattle.division.specs.Division.{Square, square, Direction, Block, parts, moved, row, curve, holds, one, count, blocks-holding}
+use Rattle.division.specs.Division.{same, place-in, square-of, number-of}
 use Rattle.division.specs.Division.Inside.{Sized, Inside}
 use Rattle.division.proofs.Rules.{All, All-map, Smaller, smaller}
 use Rattle.division.proofs.Cases.{Cut, Shape, in-run, in-side, cut, shape}
@@ -142,7 +143,10 @@ row-at d (suc n) (suc m) s z l =
 pub row-more : (d : Direction) (n : ℕ) (s : Square) → row d (suc n) s ≡ row d n s ++ (moved d n s ∷ [])
 unfolding row
 row-more d zero s = ap (λ (p : Square). p ∷ []) (sym (moved-none d s))
-row-more d (suc n) s = ap (λ zs. s ∷ zs) (row-more d n (moved d 1 s) ∙ ap (λ (p : Square). row d n (moved d 1 s) ++ (p ∷ [])) (moved-add d 1 n s ∙ ap (λ m. moved d m s) (one-add n)))
+row-more d (suc n) s =
+    let next = moved d 1 s in
+    let last : moved d n next ≡ moved d (suc n) s = moved-add d 1 n s ∙ ap (λ m. moved d m s) (one-add n) in
+    ap (λ zs. s ∷ zs) (row-more d n next ∙ ap (λ (p : Square). row d n next ++ (p ∷ [])) last)
 
 pub straight-holding : (k : Block) (p : Square) → Sized k → parts k ≡ [] → holds k p ≡ true → blocks-holding k p ≡ 1
 straight-holding k p s e held = holding-rule k p s ∙ rw (e, held)

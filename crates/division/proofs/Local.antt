@@ -12,13 +12,14 @@ use lib.Dec.{leb, ltb}
 use lib.ListN.{length, getD, length-map}
 use lib.Seq.{ext-getD}
 use Rattle.division.specs.declared.Choice.the-variants.{StraightRun, StraightSide, LongCut, UCut}
-use Rattle.division.specs.Division.{Square, square, Direction, Block, whole, choice, even-half, Part, First, Second, A, B, C, part, parts, parts-of, moved, against, within, holds, curve, blocks-holding, square-of, number-of}
+use Rattle.division.specs.Division.{Square, square, Direction, Block, whole, choice, even-half, Part, First, Second, A, B, C, part, parts, parts-of}
+use Rattle.division.specs.Division.{moved, against, within, holds, curve, blocks-holding, square-of, number-of}
 use Rattle.division.specs.Division.Inside.{Sized, Paired, x-y, y-x, x-y-back, y-x-back, Room, Inside}
-use Rattle.division.proofs.Rules.{All, halves, Chosen, is-run, is-side, is-long, is-u, chosen, parts-are, Smaller}
+use Rattle.division.proofs.Rules.{All, Chosen, is-run, is-side, is-long, is-u, chosen, parts-are, Smaller}
 use Rattle.division.proofs.Cases.{induction, rule}
-use Rattle.division.proofs.Plane.{turned, moved-add, moved-swap, moved-back, moved-none, room-across, room-first, within-moved, within-aside}
+use Rattle.division.proofs.Plane.{turned, moved-add, moved-swap, moved-back, moved-none, room-across, within-moved, within-aside}
 use Rattle.division.proofs.Sums.{total, all-right}
-use Rattle.division.proofs.Cuts.{area}
+use Rattle.division.proofs.Cuts.{area, last-room}
 use Rattle.division.proofs.Once.{length-curve, square-held, square-of-number, number-of-square}
 use Rattle.division.proofs.Blocks.{whole-inside}
 use Rattle.division.proofs.Descent.{skip-fits, part-smaller, run-square, side-square, straight-holding, part-inside, number-in, holding-in}
@@ -70,12 +71,11 @@ module _ (w h : ℕ) (k : Block) (i : Inside w h k) where
       ap (moved (k .side) (s .y)) (moved-swap (i .paired) (s .x) (even-half (k .b)) (k .start))
       ∙ moved-add (k .side) (even-half (k .b)) (s .y) (moved (k .run) (s .x) (k .start))
   spot-part C s b l =
-      let half = halves (k .b) b in
       let e = even-half (k .b) in
       let last = moved (k .run) (k .a - 1) (k .start) in
       let up = moved (k .side) (e - 1 - s .x) (k .start) in
       ap (moved (against (k .run)) (s .y))
-      (moved-back w h (k .side) e (s .x) last (room-across w h (turned (i .paired)) (k .a - 1) e (k .start) (room-first w h (k .side) e (k .b) (k .start) (i .side) (omega arith))) (l .run)
+      (moved-back w h (k .side) e (s .x) last (last-room w h k i b) (l .run)
       ∙ moved-swap (turned (i .paired)) (e - 1 - s .x) (k .a - 1) (k .start))
       ∙ moved-back w h (k .run) (k .a) (s .y) up (room-across w h (i .paired) (e - 1 - s .x) (k .a) (k .start) (i .run)) (omega arith)
       ∙ moved-swap (i .paired) (k .a - 1 - s .y) (e - 1 - s .x) (k .start)
@@ -125,7 +125,15 @@ module _ (a b : ℕ) (s : Square) where
   abbrev pub in-a : choice a b ≡ UCut → s .x < a / 2 → s .y < even-half b → Lies a b s
   unfolding part parts-of inner whole
   in-a c l m =
-      record { name = A; before = []; after = B ∷ C ∷ []; are = ap parts-of c; there = square (s .y) (s .x); within = record { run = m; side = l }; back = refl }
+      record {
+        name = A;
+        before = [];
+        after = B ∷ C ∷ [];
+        are = ap parts-of c;
+        there = square (s .y) (s .x);
+        within = record { run = m; side = l };
+        back = refl;
+      }
 
   abbrev pub in-b : choice a b ≡ UCut → s .x < a → even-half b ≤ s .y → s .y < b → Lies a b s
   unfolding part parts-of inner whole
@@ -252,8 +260,12 @@ module _ (w h : ℕ) (j : Block) (i : Inside w h j) (two : 2 ≤ j .b) (s : Squa
       let there : spot j s ≡ spot q (lies .there) = ap (spot j) (sym (lies .back)) ∙ sym (spot-part w h j i (lies .name) (lies .there) two l) in
       let held = spot-held w h q lies-inside (lies .there) l in
       record {
-        number-is = ap (number-of j) there ∙ number-in w h j i before q after (lies-parts j s lies) (spot q (lies .there)) held ∙ ap₂ _+_ (squares-in j (lies .before)) (answer .number-is);
-        holding-is = ap (blocks-holding j) there ∙ holding-in w h j i before q after (lies-parts j s lies) (spot q (lies .there)) held ∙ ap suc (answer .holding-is);
+        number-is = ap (number-of j) there
+            ∙ number-in w h j i before q after (lies-parts j s lies) (spot q (lies .there)) held
+            ∙ ap₂ _+_ (squares-in j (lies .before)) (answer .number-is);
+        holding-is = ap (blocks-holding j) there
+            ∙ holding-in w h j i before q after (lies-parts j s lies) (spot q (lies .there)) held
+            ∙ ap suc (answer .holding-is);
       }
 
 -- the part is smaller than the block
@@ -286,7 +298,8 @@ everywhere-cut : (k : Block) → All Everywhere (parts k) → 2 ≤ k .b → (s 
 everywhere-cut k all two s lies =
     let p = lies .name in
     let part-all : Everywhere (part p k) =
-    all-right Everywhere (map (λ p. part p k) (lies .before)) (part p k ∷ map (λ p. part p k) (lies .after)) (subst (All Everywhere) (lies-parts k s lies) all) .0 in
+    all-right Everywhere (map (λ p. part p k) (lies .before)) (part p k ∷ map (λ p. part p k) (lies .after))
+    (subst (All Everywhere) (lies-parts k s lies) all) .0 in
     let answers = part-all (lies .there) (lies-within k s lies) in (
       squares-of (k .a) (k .b) (lies .before) + answers .0,
       suc (answers .1),
@@ -379,7 +392,8 @@ module _ (a b : ℕ) (pa : 1 ≤ a) (pb : 1 ≤ b) (s : Square) where
   area-side l e one = at-whole (s .y) 1 (side-answer a b (whole a b) all s l e one)
 
   pub area-cut : 2 ≤ b → (lies : Lies a b s)
-      → (number-of (whole a b) s ≡ squares-of a b (lies .before) + number-of (whole (part (lies .name) (whole a b) .a) (part (lies .name) (whole a b) .b)) (lies .there))
+      → (number-of (whole a b) s
+      ≡ squares-of a b (lies .before) + number-of (whole (part (lies .name) (whole a b) .a) (part (lies .name) (whole a b) .b)) (lies .there))
       × (blocks-holding (whole a b) s ≡ suc (blocks-holding (whole (part (lies .name) (whole a b) .a) (part (lies .name) (whole a b) .b)) (lies .there)))
   unfolding whole
   area-cut two lies =

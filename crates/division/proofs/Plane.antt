@@ -131,7 +131,9 @@ up-span lo n c = omega (arith, one-and (leb lo c) (ltb c (lo + n)), leb-not c (l
 down-span : (hi n c : ℕ) → n ≤ hi + 1 → one (leb c hi && ltb hi (c + n)) ≡ span (suc hi - n) (suc hi) c
 unfolding span
 down-span hi n c l =
-    omega (arith, one-and (leb c hi) (ltb hi (c + n)), one-le (leb c hi), one-le (leb (suc hi - n) c), leb-shift hi n c l, leb-not hi c, leb-mono (suc hi - n) (suc hi) c (omega arith))
+    let both = one-and (leb c hi) (ltb hi (c + n)) in
+    let order = leb-mono (suc hi - n) (suc hi) c (omega arith) in
+    omega (arith, both, one-le (leb c hi), one-le (leb (suc hi - n) c), leb-shift hi n c l, leb-not hi c, order)
 
 -- where a stretch begins and ends on its axis, and a square's coordinate there
 abbrev low : Direction → ℕ → Square → ℕ
@@ -220,7 +222,8 @@ within-cut w h d m n s p r l =
     (within-split w h d m (n - m) s p (subst⁻¹ (λ (z : ℕ). Room w h d z s) e r))
 
 -- a stretch holds the same squares when it is walked from its other end
-pub within-back : (w h : ℕ) (d : Direction) (n : ℕ) (s p : Square) → Room w h d n s → 1 ≤ n → one (within (against d) n (moved d (n - 1) s) p) ≡ one (within d n s p)
+pub within-back : (w h : ℕ) (d : Direction) (n : ℕ) (s p : Square) → Room w h d n s → 1 ≤ n
+    → one (within (against d) n (moved d (n - 1) s) p) ≡ one (within d n s p)
 within-back w h d n s p r l =
     within-span w h (against d) n (moved d (n - 1) s) p (room-back w h d n n s r l (omega arith))
     ∙ span-back w h d n s p r l

@@ -80,29 +80,30 @@ cut-less x y X Y h l =
 side-less : (x y X Y : ℕ) → x ≤ X → 3 * y ≤ 2 * Y → 3 * (x * y) ≤ 2 * (X * Y)
 side-less x y X Y l h = rw (mul-comm x y, mul-comm X Y) (cut-less y x Y X h l)
 
+turned-less : (x y X Y : ℕ) → 3 * x ≤ 2 * Y → y ≤ X → 3 * (x * y) ≤ 2 * (X * Y)
+turned-less x y X Y h l = rw (mul-comm X Y) (cut-less x y Y X h l)
+
 -- each part of a long cut, and each of a U cut, is smaller
 long-smaller : (k : Block) → 2 ≤ k .a → 1 ≤ k .b → All (Smaller k) (map (λ p. part p k) (parts-of LongCut))
 unfolding part parts-of
 long-smaller k a b =
-    let half = halves (k .a) a in (
-      record { sized = omega arith; falls = omega arith; two-thirds = cut-less (even-half (k .a)) (k .b) (k .a) (k .b) (half .high) (le-refl (k .b)) },
-      (
-        record { sized = omega arith; falls = omega arith; two-thirds = cut-less (k .a - even-half (k .a)) (k .b) (k .a) (k .b) (omega arith) (le-refl (k .b)) },
-        tt,
-      ),
+    let half = halves (k .a) a in
+    let e = even-half (k .a) in
+    let side = le-refl (k .b) in (
+      record { sized = omega arith; falls = omega arith; two-thirds = cut-less e (k .b) (k .a) (k .b) (half .high) side },
+      (record { sized = omega arith; falls = omega arith; two-thirds = cut-less (k .a - e) (k .b) (k .a) (k .b) (omega arith) side }, tt),
     )
 
 u-smaller : (k : Block) → 2 ≤ k .a → 2 ≤ k .b → All (Smaller k) (map (λ p. part p k) (parts-of UCut))
 unfolding part parts-of
 u-smaller k a b =
-    let half = halves (k .b) b in (
-      record { sized = omega arith; falls = omega arith; two-thirds = rw (mul-comm (k .a) (k .b)) (cut-less (even-half (k .b)) (k .a / 2) (k .b) (k .a) (half .high) (omega arith)) },
+    let half = halves (k .b) b in
+    let e = even-half (k .b) in
+    let m = k .a / 2 in (
+      record { sized = omega arith; falls = omega arith; two-thirds = turned-less e m (k .a) (k .b) (half .high) (omega arith) },
       (
-        record { sized = omega arith; falls = omega arith; two-thirds = side-less (k .a) (k .b - even-half (k .b)) (k .a) (k .b) (le-refl (k .a)) (omega arith) },
-        (
-          record { sized = omega arith; falls = omega arith; two-thirds = rw (mul-comm (k .a) (k .b)) (cut-less (even-half (k .b)) (k .a - k .a / 2) (k .b) (k .a) (half .high) (omega arith)) },
-          tt,
-        ),
+        record { sized = omega arith; falls = omega arith; two-thirds = side-less (k .a) (k .b - e) (k .a) (k .b) (le-refl (k .a)) (omega arith) },
+        (record { sized = omega arith; falls = omega arith; two-thirds = turned-less e (k .a - m) (k .a) (k .b) (half .high) (omega arith) }, tt),
       ),
     )
 

@@ -2,7 +2,8 @@
 use mathlib.Core.List.{[], _∷_}
 use mathlib.Core.Path.{_≡_, refl}
 use lib.ListN.{length}
-use Rattle.division.specs.Division.{Square, square, Direction, whole, choice, even-half, part, parts, parts-of, against, moved, row, curve-by, down, curve, blocks}
+use Rattle.division.specs.Division.{Square, square, Direction, whole, choice, even-half, part, parts, parts-of, against, moved}
+use Rattle.division.specs.Division.{row, curve-by, down, curve, blocks}
 
 pub two-deep : curve (whole 2 2) ≡ square 0 0 ∷ square 0 1 ∷ square 1 1 ∷ square 1 0 ∷ []
 unfolding curve down parts parts-of part choice even-half whole moved against row curve-by mathlib.Core.List.flatten

@@ -49,8 +49,8 @@ steps-across k i n l = steps-across-by (k .along) (k .across) (k .turned) (k .ba
 
 -- the parts of a placed block, each by the two bits of its directions
 long-by : (along across a b : ℕ) (turned back second : Bool)
-    → block (record { along = stepped-to along (cond second (even-half a) 0) back; across = across; turned = turned; back = back; a = cond second (a - even-half a) (even-half a); b = b })
-    ≡ part (cond second Second First) (block (record { along = along; across = across; turned = turned; back = back; a = a; b = b }))
+    → block-at (stepped-to along (cond second (even-half a) 0) back) across turned back (cond second (a - even-half a) (even-half a)) b
+    ≡ part (cond second Second First) (block-at along across turned back a b)
 unfolding part moved
 long-by along across a b false false true = refl
 long-by along across a b false true true = refl
@@ -63,28 +63,26 @@ long-by along across a b true true false = rw sub-zero
 
 pub long-block : (k : Placed) (second : Bool) (e skip there run : ℕ) → e ≡ even-half (k .a) → skip ≡ cond second e 0
     → there ≡ stepped-to (k .along) skip (k .back) → run ≡ cond second (k .a - e) e
-    → block (record { along = there; across = k .across; turned = k .turned; back = k .back; a = run; b = k .b }) ≡ part (cond second Second First) (block k)
+    → block-at there (k .across) (k .turned) (k .back) run (k .b) ≡ part (cond second Second First) (block k)
 long-block k second e skip there run p q r s =
     let is-there : there ≡ stepped-to (k .along) (cond second (even-half (k .a)) 0) (k .back) =
     r ∙ ap (λ n. stepped-to (k .along) n (k .back)) (q ∙ ap (λ n. cond second n 0) p) in
     let is-run : run ≡ cond second (k .a - even-half (k .a)) (even-half (k .a)) = s ∙ ap (λ n. cond second (k .a - n) n) p in
-    ap₂ (λ t n. block (record { along = t; across = k .across; turned = k .turned; back = k .back; a = n; b = k .b })) is-there is-run
+    ap₂ (λ t n. block-at t (k .across) (k .turned) (k .back) n (k .b)) is-there is-run
     ∙ long-by (k .along) (k .across) (k .a) (k .b) (k .turned) (k .back) second
 
 a-by : (along across a b e : ℕ) (turned back : Bool) → e ≡ even-half b
-    → block (record { along = across; across = along; turned = not turned; back = back; a = e; b = a / 2 })
-    ≡ part A (block (record { along = along; across = across; turned = turned; back = back; a = a; b = b }))
+    → block-at across along (not turned) back e (a / 2) ≡ part A (block-at along across turned back a b)
 unfolding part
 a-by along across a b e false back p = rw p
 a-by along across a b e true back p = rw p
 
 pub a-block : (k : Placed) (e : ℕ) → e ≡ even-half (k .b)
-    → block (record { along = k .across; across = k .along; turned = not (k .turned); back = k .back; a = e; b = k .a / 2 }) ≡ part A (block k)
+    → block-at (k .across) (k .along) (not (k .turned)) (k .back) e (k .a / 2) ≡ part A (block k)
 a-block k e p = a-by (k .along) (k .across) (k .a) (k .b) e (k .turned) (k .back) p
 
 b-by : (along across a b : ℕ) (turned back : Bool)
-    → block (record { along = along; across = stepped-to across (even-half b) back; turned = turned; back = back; a = a; b = b - even-half b })
-    ≡ part B (block (record { along = along; across = across; turned = turned; back = back; a = a; b = b }))
+    → block-at along (stepped-to across (even-half b) back) turned back a (b - even-half b) ≡ part B (block-at along across turned back a b)
 unfolding part moved
 b-by along across a b false false = refl
 b-by along across a b false true = refl
@@ -92,29 +90,33 @@ b-by along across a b true false = refl
 b-by along across a b true true = refl
 
 pub b-block : (k : Placed) (e there : ℕ) → e ≡ even-half (k .b) → there ≡ stepped-to (k .across) e (k .back)
-    → block (record { along = k .along; across = there; turned = k .turned; back = k .back; a = k .a; b = k .b - e }) ≡ part B (block k)
+    → block-at (k .along) there (k .turned) (k .back) (k .a) (k .b - e) ≡ part B (block k)
 b-block k e there p q =
-    ap₂ (λ t n. block (record { along = k .along; across = t; turned = k .turned; back = k .back; a = k .a; b = k .b - n })) (q ∙ ap (λ n. stepped-to (k .across) n (k .back)) p) p
+    ap₂ (λ t n. block-at (k .along) t (k .turned) (k .back) (k .a) (k .b - n)) (q ∙ ap (λ n. stepped-to (k .across) n (k .back)) p) p
     ∙ b-by (k .along) (k .across) (k .a) (k .b) (k .turned) (k .back)
 
 c-by : (along across a b : ℕ) (turned back : Bool)
-    → block (record { along = stepped-to across (even-half b - 1) back; across = stepped-to along (a - 1) back; turned = not turned; back = not back; a = even-half b; b = a - a / 2 })
-    ≡ part C (block (record { along = along; across = across; turned = turned; back = back; a = a; b = b }))
+    → block-at (stepped-to across (even-half b - 1) back) (stepped-to along (a - 1) back) (not turned) (not back) (even-half b) (a - a / 2)
+    ≡ part C (block-at along across turned back a b)
 unfolding part moved against
 c-by along across a b false false = refl
 c-by along across a b false true = refl
 c-by along across a b true false = refl
 c-by along across a b true true = refl
 
-pub c-block : (k : Placed) (e up last : ℕ) → e ≡ even-half (k .b) → up ≡ stepped-to (k .across) (e - 1) (k .back) → last ≡ stepped-to (k .along) (k .a - 1) (k .back)
-    → block (record { along = up; across = last; turned = not (k .turned); back = not (k .back); a = e; b = k .a - k .a / 2 }) ≡ part C (block k)
+pub c-block : (k : Placed) (e up last : ℕ) → e ≡ even-half (k .b)
+    → up ≡ stepped-to (k .across) (e - 1) (k .back) → last ≡ stepped-to (k .along) (k .a - 1) (k .back)
+    → block-at up last (not (k .turned)) (not (k .back)) e (k .a - k .a / 2) ≡ part C (block k)
 c-block k e up last p q r =
-    (λ i. block (record { along = (q ∙ ap (λ n. stepped-to (k .across) (n - 1) (k .back)) p) i; across = r i; turned = not (k .turned); back = not (k .back); a = p i; b = k .a - k .a / 2 }))
+    let is-up : up ≡ stepped-to (k .across) (even-half (k .b) - 1) (k .back) = q ∙ ap (λ n. stepped-to (k .across) (n - 1) (k .back)) p in
+    (λ i. block-at (is-up i) (r i) (not (k .turned)) (not (k .back)) (p i) (k .a - k .a / 2))
     ∙ c-by (k .along) (k .across) (k .a) (k .b) (k .turned) (k .back)
 
 -- the long cut's part that holds a spot
 long-spot-by : (s : Spot) (first : Bool)
-    → _≡_ {A = Spot} (record { a = cond first (even-half (s .a)) (s .a - even-half (s .a)); b = s .b; u = s .u - cond first 0 (even-half (s .a)); v = s .v }) (entered (cond first First Second) s)
+    → _≡_ {A = Spot}
+    (record { a = cond first (even-half (s .a)) (s .a - even-half (s .a)); b = s .b; u = s .u - cond first 0 (even-half (s .a)); v = s .v })
+    (entered (cond first First Second) s)
 long-spot-by s true = rw sub-zero
 long-spot-by s false = refl
 

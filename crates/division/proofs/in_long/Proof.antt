@@ -11,8 +11,10 @@ even-half-requires c κs = search needs
 
 sub-either : tie.Need-sub-either
 sub-either c =
-    let half = halves (c .before .before .before .args .s .a) (c .before .before .before .pre .0) in
-    omega (arith, c .before .before .even-half .ensures)
+    let halved = c .before .before in
+    let start = halved .before in
+    let half = halves (start .args .s .a) (start .pre .0) in
+    omega (arith, halved .even-half .ensures)
 
 either-requires : tie.Need-either-requires
 either-requires c κs = search needs
@@ -22,12 +24,17 @@ either-requires-2 c κs = search needs
 
 sub-t7 : tie.Need-sub-t7
 sub-t7 c =
-    skip-within (c .before .before .before .before .before .before .args .s .u) (c .before .before .before .before .before .even-half .result) (c .before .either2 .result) (c .before .either2 .ensures)
+    let halved = c .before .before .before .before .before in
+    let skip = c .before .either2 in
+    skip-within (halved .before .args .s .u) (halved .even-half .result) (skip .result) (skip .ensures)
 
 returns : tie.Need-returns
 returns c =
-    let e = c .before .before .before .before .before .even-half in
-    long-spot (c .before .before .before .before .before .before .args .s) (e .result) (c .before .before .either .result) (c .before .either2 .result) (e .ensures) (c .before .before .either .ensures) (c .before .either2 .ensures)
+    let halved = c .before .before .before .before .before in
+    let e = halved .even-half in
+    let run = c .before .before .either in
+    let skip = c .before .either2 in
+    long-spot (halved .before .args .s) (e .result) (run .result) (skip .result) (e .ensures) (run .ensures) (skip .ensures)
 
 pub in-long-spec : {M : Type 1} → statement M
 in-long-spec = tie.close (tie.spec even-half-requires sub-either either-requires either-requires-2 sub-t7 returns)

@@ -25,26 +25,36 @@ either-requires c κs = search needs
 
 stepped-requires : tie.Need-stepped-requires
 stepped-requires c κs =
-    let k = c .before .before .args .k in
-    let pre = c .before .before .pre in
-    steps-along k (pre .0) (c .either .result)
-    (skip-less (k .a) (c .before .even-half .result) (c .either .result) (c .before .before .args .second) (long-lengths (block k) (pre .0 .sized) (pre .1) .0) (c .before .even-half .ensures) (c .either .ensures))
+    let start = c .before .before in
+    let k = start .args .k in
+    let inside = start .pre .0 in
+    let e = c .before .even-half in
+    let skip = c .either in
+    let two = long-lengths (block k) (inside .sized) (start .pre .1) .0 in
+    steps-along k inside (skip .result) (skip-less (k .a) (e .result) (skip .result) (start .args .second) two (e .ensures) (skip .ensures))
 
 sub-either : tie.Need-sub-either
 sub-either c =
-    let k = c .before .before .before .before .args .k in
-    let pre = c .before .before .before .before .pre in
-    let half = halves (k .a) (long-lengths (block k) (pre .0 .sized) (pre .1) .0) in
-    omega (arith, c .before .before .before .even-half .ensures)
+    let halved = c .before .before .before in
+    let start = halved .before in
+    let k = start .args .k in
+    let half = halves (k .a) (long-lengths (block k) (start .pre .0 .sized) (start .pre .1) .0) in
+    omega (arith, halved .even-half .ensures)
 
 either-requires-2 : tie.Need-either-requires-2
 either-requires-2 c κs = search needs
 
 returns : tie.Need-returns
 returns c =
-    let start = c .before .before .before .before .before in
-    long-block (start .args .k) (start .args .second) (c .before .before .before .before .even-half .result) (c .before .before .before .either .result) (c .before .before .stepped .result) (c .either2 .result)
-    (c .before .before .before .before .even-half .ensures) (c .before .before .before .either .ensures) (c .before .before .stepped .ensures) (c .either2 .ensures)
+    let stepped-on = c .before .before in
+    let chosen = stepped-on .before in
+    let start = chosen .before .before in
+    let e = chosen .before .even-half in
+    let skip = chosen .either in
+    let there = stepped-on .stepped in
+    let run = c .either2 in
+    long-block (start .args .k) (start .args .second) (e .result) (skip .result) (there .result) (run .result)
+    (e .ensures) (skip .ensures) (there .ensures) (run .ensures)
 
 pub long-part-spec : {M : Type 1} → statement M
 long-part-spec = tie.close (tie.spec even-half-requires either-requires stepped-requires sub-either either-requires-2 returns)

@@ -20,14 +20,17 @@ stepped-requires c κs =
 
 sub-t4 : tie.Need-sub-t4
 sub-t4 c =
-    let k = c .before .before .before .args .k in
-    let pre = c .before .before .before .pre in
-    let half = halves (k .b) (u-lengths (block k) (pre .0 .sized) (pre .1) .1) in
-    omega (arith, c .before .before .even-half .ensures)
+    let halved = c .before .before in
+    let start = halved .before in
+    let half = halves (start .args .k .b) (u-lengths (block (start .args .k)) (start .pre .0 .sized) (start .pre .1) .1) in
+    omega (arith, halved .even-half .ensures)
 
 returns : tie.Need-returns
 returns c =
-    b-block (c .before .before .before .args .k) (c .before .before .even-half .result) (c .before .stepped .result) (c .before .before .even-half .ensures) (c .before .stepped .ensures)
+    let halved = c .before .before in
+    let e = halved .even-half in
+    let there = c .before .stepped in
+    b-block (halved .before .args .k) (e .result) (there .result) (e .ensures) (there .ensures)
 
 pub part-b-spec : {M : Type 1} → statement M
 part-b-spec = tie.close (tie.spec even-half-requires stepped-requires sub-t4 returns)

@@ -29,8 +29,9 @@ sub-stepped-2 c = c .before .before .before .pre .0 .sized .run
 
 stepped-requires-2 : tie.Need-stepped-requires-2
 stepped-requires-2 c κs =
-    let k = c .before .before .before .args .k in
-    let inside = c .before .before .before .pre .0 in
+    let start = c .before .before .before in
+    let k = start .args .k in
+    let inside = start .pre .0 in
     let run = inside .sized .run in
     steps-along k inside (k .a - 1) (omega arith)
 
@@ -39,10 +40,13 @@ sub-t10 c = search needs
 
 returns : tie.Need-returns
 returns c =
-    let e = c .before .before .before .before .before .before .before .even-half in
-    let up = c .before .before .before .before .before .before .stepped in
-    let last = c .before .before .before .before .stepped2 in
-    c-block (c .before .before .before .before .before .before .before .before .args .k) (e .result) (up .result) (last .result) (e .ensures) (up .ensures) (last .ensures)
+    let at-last = c .before .before .before .before in
+    let up-the-side = at-last .before .before in
+    let halved = up-the-side .before in
+    let e = halved .even-half in
+    let up = up-the-side .stepped in
+    let last = at-last .stepped2 in
+    c-block (halved .before .args .k) (e .result) (up .result) (last .result) (e .ensures) (up .ensures) (last .ensures)
 
 pub part-c-spec : {M : Type 1} → statement M
 part-c-spec = tie.close (tie.spec even-half-requires sub-stepped stepped-requires sub-stepped-2 stepped-requires-2 sub-t10 returns)

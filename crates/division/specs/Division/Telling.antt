@@ -24,8 +24,8 @@ telling =
     ∷ number-in 11 7 42 6 0 5
     ∷ number-in 11 7 0 0 0 5
     -- Areas that get a U cut, each the widest of its height: the first square of B and the last of C, and of 12 by 8 the first of C too. By a > b + 1 all
-    -- of them would be cut long, by 2a >= 3b the 6 by 4, the 9 by 6 and the 12 by 8, by 3a > 4b + 2 the 9 by 6 and the 12 by 8, by 5a > 7b + 3 the 12 by 8. If A ran in
-    -- the run direction, the 6 by 4 would begin (0, 0) (0, 1).
+    -- of them would be cut long, by 2a >= 3b the 6 by 4, the 9 by 6 and the 12 by 8, by 3a > 4b + 2 the 9 by 6 and the 12 by 8, by 5a > 7b + 3 the 12 by 8.
+    -- If A ran in the run direction, the 6 by 4 would begin (0, 0) (0, 1).
     ∷ traversal 6 4 (square 0 0 ∷ square 1 0 ∷ square 2 0 ∷ square 2 1 ∷ square 1 1 ∷ square 0 1
     ∷ square 0 2 ∷ square 0 3 ∷ square 1 3 ∷ square 1 2 ∷ square 2 2 ∷ square 2 3 ∷ square 3 3 ∷ square 3 2 ∷ square 4 2 ∷ square 4 3 ∷ square 5 3 ∷ square 5 2
     ∷ square 5 1 ∷ square 4 1 ∷ square 3 1 ∷ square 3 0 ∷ square 4 0 ∷ square 5 0 ∷ [])

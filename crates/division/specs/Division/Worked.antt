@@ -5,7 +5,8 @@ use mathlib.Core.Path.{_≡_, refl}
 use Prim.Native.Nat.{ℕ}
 use lib.Dec.{T, eqb}
 use lib.ListN.{length}
-use Rattle.division.specs.Division.{Square, square, whole, choice, even-half, part, parts, parts-of, moved, against, row, curve-by, down, curve, blocks, within, holds, count, blocks-holding, same, place-in, square-of, number-of}
+use Rattle.division.specs.Division.{Square, square, whole, choice, even-half, part, parts, parts-of, moved, against, row, curve-by, down, curve, blocks}
+use Rattle.division.specs.Division.{within, holds, count, blocks-holding, same, place-in, square-of, number-of}
 
 -- A line of the table, of a w by h area.
 pub data Case : Type 0 where
@@ -55,7 +56,8 @@ worked =
     ∷ number-is 4 3 2 1 1
     ∷ number-in 4 3 9 2 1 3
     ∷ number-in 5 2 9 3 0 3
-    ∷ traversal 3 4 (square 0 0 ∷ square 0 1 ∷ square 0 2 ∷ square 0 3 ∷ square 1 3 ∷ square 2 3 ∷ square 2 2 ∷ square 1 2 ∷ square 2 1 ∷ square 1 1 ∷ square 1 0 ∷ square 2 0 ∷ [])
+    ∷ traversal 3 4 (square 0 0 ∷ square 0 1 ∷ square 0 2 ∷ square 0 3 ∷ square 1 3 ∷ square 2 3 ∷ square 2 2 ∷ square 1 2
+    ∷ square 2 1 ∷ square 1 1 ∷ square 1 0 ∷ square 2 0 ∷ [])
     ∷ divided 3 4 10
     ∷ number-in 7 4 16 4 0 3
     ∷ []
