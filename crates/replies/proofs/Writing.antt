@@ -1,15 +1,18 @@
 -- Bytes written one after the other, and the room for them.
 use mathlib.Core.Bool.{Bool, true, false}
-use mathlib.Core.List.{List, [], _∷_, _++_}
+use mathlib.Core.List.{List, [], _∷_, _++_, append-nil, append-assoc}
 use mathlib.Core.Path.{_≡_, refl, sym, ap, ap₂, _∙_}
-use Prim.Native.Nat.{ℕ, suc, _+_, _-_, _≤_, _<_}
+use Prim.Native.Nat.{ℕ, suc, _+_, _*_, _-_, _≤_, _<_}
 use native.Mathlib.Nat.{add-zero}
 use native.Mathlib.Omega.{arith}
 use borrow.Author.Tests.{leb-true, leb-false, le-leb, lt-leb}
 use lib.Dec.{leb}
 use lib.ListN.{length, length-append, getD, take, drop, set}
 use lib.Seq.{sets, sets-eq, length-sets, take-suc, take-length, length-take-le, take-at, drop-at, slice}
-use Rattle.replies.specs.Text.{longest, Writes, if-room}
+use Rattle.words.specs.Decimal.{decimal}
+use Rattle.words.proofs.Decimals.{ten-digits}
+use Rattle.clerk.specs.Clerk.{Said}
+use Rattle.replies.specs.Text.{spaced, all-spaced, body, longest, Writes, if-room}
 
 sets-append : (t : List ℕ) (i : ℕ) (xs ys : List ℕ) → sets t i (xs ++ ys) ≡ sets (sets t i xs) (i + length xs) ys
 sets-append t i [] ys = ap (λ n. sets t n ys) (sym (add-zero i))
@@ -31,6 +34,18 @@ writes-both {t} {t′} {t″} {xs} {ys} {i} first second =
 pub writes-byte : (t : List ℕ) (i b : ℕ) → Writes t i (b ∷ []) (set t i b) (i + 1)
 writes-byte t i b = record { written = refl; behind = refl }
 
+-- a buffer's text with nothing more
+pub writes-none : (t : List ℕ) (i : ℕ) → Writes t i [] t i
+writes-none t i = record { written = refl; behind = sym (add-zero i) }
+
+-- a number that was written ends at most ten bytes on
+pub number-near : {t t′ : List ℕ} {at n end : ℕ} → n < 4294967296 → Writes t at (decimal n) t′ end → end ≤ at + 10
+number-near {n = n} fits w = omega (arith, w .behind, ten-digits n fits)
+
+-- the body of what is said, by another form of it
+pub says-as : {t t′ : List ℕ} {at end : ℕ} {s s′ : Said} → s ≡ s′ → Writes t at (body s′) t′ end → Writes t at (body s) t′ end
+says-as same w = rw same w
+
 -- what is written leaves the buffer its length
 pub writes-length : {t t′ xs : List ℕ} {i n : ℕ} → Writes t i xs t′ n → length t′ ≡ length t
 writes-length {t} {t′} {xs} {i} w = ap length (w .written) ∙ length-sets t i xs
@@ -51,9 +66,34 @@ pub writes-all : {t t′ : List ℕ} {at : ℕ} (s : List ℕ) (i : ℕ) → i �
 writes-all {t} {t′} {at} s i e w =
     record { written = w .written ∙ ap (sets t at) (ap (λ n. take n s) e ∙ take-length s); behind = refl }
 
--- a buffer's text with nothing more
-pub writes-none : (t : List ℕ) (i : ℕ) → Writes t i [] t i
-writes-none t i = record { written = refl; behind = sym (add-zero i) }
+-- the numbers that are written so far, from a place on, with at most 11 bytes for each, and the room for them all
+pub record Numbered (t : List ℕ) (from : ℕ) (ns t′ : List ℕ) (end i : ℕ) : Type 0 where
+  pub so-far : Writes t from (all-spaced (take i ns)) t′ end
+  pub near : end ≤ from + 11 * i
+  pub among : i ≤ length ns
+  pub room : from + 11 * length ns ≤ length t
+
+all-spaced-last : (ns : List ℕ) (n : ℕ) → all-spaced (ns ++ (n ∷ [])) ≡ all-spaced ns ++ spaced n
+all-spaced-last [] n = append-nil (spaced n)
+all-spaced-last (m ∷ ns) n = ap (spaced m ++_) (all-spaced-last ns n) ∙ sym (append-assoc (spaced m) (all-spaced ns) (spaced n))
+
+pub numbered-none : {t : List ℕ} {from : ℕ} {ns : List ℕ} → from + 11 * length ns ≤ length t → Numbered t from ns t from 0
+numbered-none {t} {from} room = record { so-far = writes-none t from; near = omega arith; among = omega arith; room = room }
+
+pub numbered-next : {t ns t′ t″ : List ℕ} {from end end′ i : ℕ} → Numbered t from ns t′ end i → i < length ns
+    → Writes t′ end (spaced (getD ns i 0)) t″ end′ → end′ ≤ end + 11 → Numbered t from ns t″ end′ (i + 1)
+numbered-next {t} {ns} {t′} {t″} {from} {end} {end′} {i} before more next few =
+    let on : i + 1 ≡ suc i = omega arith in
+    let all : all-spaced (take (i + 1) ns) ≡ all-spaced (take i ns) ++ spaced (getD ns i 0) =
+    ap (λ n. all-spaced (take n ns)) on ∙ ap all-spaced (take-suc ns i 0 more) ∙ all-spaced-last (take i ns) (getD ns i 0) in
+    record { so-far = rw all (writes-both (before .so-far) next); near = omega arith; among = omega arith; room = before .room }
+
+pub numbered-all : {t ns t′ : List ℕ} {from end i : ℕ} → Numbered t from ns t′ end i → length ns ≤ i
+    → Writes t from (all-spaced ns) t′ end × (end ≤ from + 11 * length ns)
+numbered-all {t} {ns} {t′} {from} {end} {i} done last =
+    let all : i ≡ length ns = omega arith in
+    let same : take i ns ≡ ns = ap (λ n. take n ns) all ∙ take-length ns in
+    (rw same at (done .so-far), omega arith)
 
 -- room after a place, tested without a sum that could be too large
 pub room-is : (at n : ℕ) → at ≤ n → leb longest (n - at) ≡ leb (at + longest) n
@@ -64,7 +104,8 @@ room-is at n l = by (leb longest (n - at)) refl
     by false e = e ∙ sym (lt-leb (at + longest) n (let none = leb-false longest (n - at) e in omega arith))
 
 -- what is written where there is room, and where there is none
-pub with-room : {t t′ : List ℕ} {at end : ℕ} (bytes : List ℕ) → leb (at + longest) (length t) ≡ true → Writes t at bytes t′ end → Writes t at (if-room t at bytes) t′ end
+pub with-room : {t t′ : List ℕ} {at end : ℕ} (bytes : List ℕ) → leb (at + longest) (length t) ≡ true → Writes t at bytes t′ end
+    → Writes t at (if-room t at bytes) t′ end
 with-room bytes e w = rw e w
 
 pub no-room : (t : List ℕ) (at : ℕ) (bytes : List ℕ) → leb (at + longest) (length t) ≡ false → Writes t at (if-room t at bytes) t at

@@ -1,13 +1,13 @@
 // Replies as text: written to a lent buffer, with the line's number.
 use clerk::Reply;
-ghost use mathlib.Core.List.{[], _∷_};
+ghost use mathlib.Core.List.{_++_};
 ghost use mathlib.Core.Path.{_≡_};
-ghost use Prim.Native.Nat.{_+_, _≤_};
+ghost use Prim.Native.Nat.{_+_, _*_, _≤_};
 ghost use lib.Dec.{leb};
 ghost use lib.ListN.{length};
-ghost use Rattle.clerk.specs.Clerk.{says, Area-set, Cell, Number, Refused, said};
+ghost use Rattle.clerk.specs.Clerk.{said};
 ghost use Rattle.words.specs.Decimal.{decimal};
-ghost use Rattle.replies.specs.Text.{spaced, body, text, stop, longest, Writes, if-room};
+ghost use Rattle.replies.specs.Text.{spaced, all-spaced, body, text, stop, longest, Writes, if-room};
 
 // The longest text: a line's number and a reply with five numbers, each of ten digits.
 const LONGEST: usize = 71;
@@ -46,51 +46,17 @@ fn put_spaced(out: &mut [u8], at: usize, n: u32) -> usize
     put_number(out, at + 1, n)
 }
 
-// The word AREA and its five numbers.
-fn put_area(out: &mut [u8], at: usize, w: u32, h: u32, squares: u32, x: u32, y: u32) -> usize
-    requires { ⌜ at + 60 ≤ length (now out) ⌝ }
-    ensures { λ r. ⌜ Writes (now (out .entry)) at (body (says Area-set (w ∷ h ∷ squares ∷ x ∷ y ∷ []))) (now (out .exit)) r × (r ≤ at + 60) ⌝ }
+// A word and numbers, each number after a space.
+fn put_said(out: &mut [u8], at: usize, word: &[u8], numbers: &[u32]) -> usize
+    requires { ⌜ at + length (now word) + 11 * length (now numbers) ≤ length (now out) ⌝ }
+    ensures { λ r. ⌜ Writes (now (out .entry)) at (now (word .entry) ++ all-spaced (now (numbers .entry))) (now (out .exit)) r
+        × (r ≤ at + length (now (word .entry)) + 11 * length (now (numbers .entry))) ⌝ }
 {
-    let word: [u8; 5] = *b" AREA";
-    let a = put_bytes(out, at, &word[..]);
-    let b = put_spaced(out, a, w);
-    let c = put_spaced(out, b, h);
-    let d = put_spaced(out, c, squares);
-    let e = put_spaced(out, d, x);
-    put_spaced(out, e, y)
-}
-
-// The word CELL and its three numbers.
-fn put_cell(out: &mut [u8], at: usize, x: u32, y: u32, blocks: u32) -> usize
-    requires { ⌜ at + 38 ≤ length (now out) ⌝ }
-    ensures { λ r. ⌜ Writes (now (out .entry)) at (body (says Cell (x ∷ y ∷ blocks ∷ []))) (now (out .exit)) r × (r ≤ at + 38) ⌝ }
-{
-    let word: [u8; 5] = *b" CELL";
-    let a = put_bytes(out, at, &word[..]);
-    let b = put_spaced(out, a, x);
-    let c = put_spaced(out, b, y);
-    put_spaced(out, c, blocks)
-}
-
-// The word NUMBER and its two numbers.
-fn put_found(out: &mut [u8], at: usize, number: u32, blocks: u32) -> usize
-    requires { ⌜ at + 29 ≤ length (now out) ⌝ }
-    ensures { λ r. ⌜ Writes (now (out .entry)) at (body (says Number (number ∷ blocks ∷ []))) (now (out .exit)) r × (r ≤ at + 29) ⌝ }
-{
-    let word: [u8; 7] = *b" NUMBER";
-    let a = put_bytes(out, at, &word[..]);
-    let b = put_spaced(out, a, number);
-    put_spaced(out, b, blocks)
-}
-
-// The word REFUSED and its number.
-fn put_refused(out: &mut [u8], at: usize, refusal: u32) -> usize
-    requires { ⌜ at + 19 ≤ length (now out) ⌝ }
-    ensures { λ r. ⌜ Writes (now (out .entry)) at (body (says Refused (refusal ∷ []))) (now (out .exit)) r × (r ≤ at + 19) ⌝ }
-{
-    let word: [u8; 8] = *b" REFUSED";
-    let a = put_bytes(out, at, &word[..]);
-    put_spaced(out, a, refusal)
+    let mut end = put_bytes(out, at, word);
+    for i in 0..numbers.len() {
+        end = put_spaced(out, end, numbers[i]);
+    }
+    end
 }
 
 // A reply's word and numbers.
@@ -105,10 +71,22 @@ fn put_body(out: &mut [u8], at: usize, reply: Reply) -> usize
             squares,
             x,
             y,
-        } => put_area(out, at, w, h, squares, x, y),
-        Reply::Cell { x, y, blocks } => put_cell(out, at, x, y, blocks),
-        Reply::Number { number, blocks } => put_found(out, at, number, blocks),
-        Reply::Refused(r) => put_refused(out, at, terms::refusal_number(r)),
+        } => {
+            let numbers: [u32; 5] = [w, h, squares, x, y];
+            put_said(out, at, b" AREA", &numbers[..])
+        }
+        Reply::Cell { x, y, blocks } => {
+            let numbers: [u32; 3] = [x, y, blocks];
+            put_said(out, at, b" CELL", &numbers[..])
+        }
+        Reply::Number { number, blocks } => {
+            let numbers: [u32; 2] = [number, blocks];
+            put_said(out, at, b" NUMBER", &numbers[..])
+        }
+        Reply::Refused(r) => {
+            let numbers: [u32; 1] = [terms::refusal_number(r)];
+            put_said(out, at, b" REFUSED", &numbers[..])
+        }
     }
 }
 
@@ -128,9 +106,8 @@ fn put_stop(out: &mut [u8], at: usize, line: u32) -> usize
     requires { ⌜ at + longest ≤ length (now out) ⌝ }
     ensures { λ r. ⌜ Writes (now (out .entry)) at (stop line) (now (out .exit)) r × (r ≤ at + longest) ⌝ }
 {
-    let word: [u8; 6] = *b" STOP\n";
     let a = put_number(out, at, line);
-    put_bytes(out, a, &word[..])
+    put_bytes(out, a, b" STOP\n")
 }
 
 // Whether a buffer has room for the longest text after a place.

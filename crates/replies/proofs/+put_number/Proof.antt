@@ -48,13 +48,23 @@ put-number-cast-out :
 put-number-cast-out t c = record { fits = let l = c .if1 .taken in omega arith }
 
 put-number-slice-write-out : (t : ℕ) → put-number-lts.Need-slice-write-out (put-number-calls t) (put-number-at t) put-number.Post
-put-number-slice-write-out t c = let room = c .before .before .pre .1 in let one = ap length (one-digit (c .before .before .args .n) (c .if1 .taken)) in omega arith
+put-number-slice-write-out t c =
+    let start = c .before .before in
+    let room = start .pre .1 in
+    let one = ap length (one-digit (start .args .n) (c .if1 .taken)) in
+    omega arith
 
 put-number-add-result : (t : ℕ) → put-number-lts.Need-add-result (put-number-calls t) (put-number-at t) put-number.Post
-put-number-add-result t c = record { fits = let room = c .before .before .pre .1 in let one = ap length (one-digit (c .before .before .args .n) (c .if1 .taken)) in omega arith }
+put-number-add-result t c =
+    let start = c .before .before in
+    let room = start .pre .1 in
+    let one = ap length (one-digit (start .args .n) (c .if1 .taken)) in
+    record { fits = omega arith }
 
 put-number-same-length : (t : ℕ) → put-number-lts.Need-same-length (put-number-calls t) (put-number-at t) put-number.Post
-put-number-same-length t c = length-set (c .before .before .args .out .now) (c .before .before .args .at) (48 + c .before .before .args .n)
+put-number-same-length t c =
+    let start = c .before .before in
+    length-set (start .args .out .now) (start .args .at) (48 + start .args .n)
 
 put-number-returns :
     (t : ℕ) →
@@ -62,10 +72,19 @@ put-number-returns :
     (put-number-calls t)
     (put-number-at t)
     put-number.Post
-put-number-returns t c = subst⁻¹ (λ (ds : List ℕ). Writes (c .before .before .args .out .now) (c .before .before .args .at) ds (set (c .before .before .args .out .now) (c .before .before .args .at) (48 + c .before .before .args .n)) (c .before .before .args .at + 1)) (one-digit (c .before .before .args .n) (c .if1 .taken)) (writes-byte (c .before .before .args .out .now) (c .before .before .args .at) (48 + c .before .before .args .n))
+put-number-returns t c =
+    let start = c .before .before in
+    let out = start .args .out .now in
+    let at = start .args .at in
+    let n = start .args .n in
+    subst⁻¹ (λ (ds : List ℕ). Writes out at ds (set out at (48 + n)) (at + 1)) (one-digit n (c .if1 .taken)) (writes-byte out at (48 + n))
 
 put-number-put-number-requires : (t : ℕ) → put-number-lts.Need-put-number-requires (put-number-calls t) (put-number-at t) put-number.Post
-put-number-put-number-requires t c κs = (let m = c .before .before .before .pre .0 in let large = c .before .if1 .left in omega arith, let room = c .before .before .before .pre .1 in let more = digits-more (c .before .before .before .args .n) (c .before .if1 .left) in omega arith)
+put-number-put-number-requires t c κs =
+    let start = c .before .before .before in (
+      let m = start .pre .0 in let large = c .before .if1 .left in omega arith,
+      let room = start .pre .1 in let more = digits-more (start .args .n) (c .before .if1 .left) in omega arith,
+    )
 
 put-number-add-out-2 : (t : ℕ) → put-number-lts.Need-add-out-2 (put-number-calls t) (put-number-at t) put-number.Post
 put-number-add-out-2 t c = record { fits = omega arith }
@@ -74,16 +93,44 @@ put-number-cast-out-2 : (t : ℕ) → put-number-lts.Need-cast-out-2 (put-number
 put-number-cast-out-2 t c = record { fits = omega arith }
 
 put-number-slice-write-out-2 : (t : ℕ) → put-number-lts.Need-slice-write-out-2 (put-number-calls t) (put-number-at t) put-number.Post
-put-number-slice-write-out-2 t c = let room = c .before .before .before .before .before .before .pre .1 in let more = digits-more (c .before .before .before .before .before .before .args .n) (c .before .before .before .before .if1 .left) in let same = c .before .before .put-number .kept .0 in let there = c .before .before .put-number .ensures .behind in omega arith
+put-number-slice-write-out-2 t c =
+    let tenth = c .before .before in
+    let test = tenth .before .before in
+    let start = test .before .before in
+    let room = start .pre .1 in
+    let more = digits-more (start .args .n) (test .if1 .left) in
+    let same = tenth .put-number .kept .0 in
+    let there = tenth .put-number .ensures .behind in
+    omega arith
 
 put-number-add-result-2 : (t : ℕ) → put-number-lts.Need-add-result-2 (put-number-calls t) (put-number-at t) put-number.Post
-put-number-add-result-2 t c = record { fits = let room = c .before .before .before .before .before .before .pre .1 in let more = digits-more (c .before .before .before .before .before .before .args .n) (c .before .before .before .before .if1 .left) in let there = c .before .before .put-number .ensures .behind in omega arith }
+put-number-add-result-2 t c =
+    let tenth = c .before .before in
+    let test = tenth .before .before in
+    let start = test .before .before in
+    let room = start .pre .1 in
+    let more = digits-more (start .args .n) (test .if1 .left) in
+    let there = tenth .put-number .ensures .behind in
+    record { fits = omega arith }
 
 put-number-same-length-2 : (t : ℕ) → put-number-lts.Need-same-length-2 (put-number-calls t) (put-number-at t) put-number.Post
-put-number-same-length-2 t c = length-set (c .before .before .put-number .last .0) (c .before .before .put-number .result) (48 + c .before .before .before .before .before .before .args .n % 10) ∙ c .before .before .put-number .kept .0
+put-number-same-length-2 t c =
+    let tenth = c .before .before in
+    let start = tenth .before .before .before .before in
+    length-set (tenth .put-number .last .0) (tenth .put-number .result) (48 + start .args .n % 10) ∙ tenth .put-number .kept .0
 
 put-number-returns-2 : (t : ℕ) → put-number-lts.Need-returns-2 (put-number-calls t) (put-number-at t) put-number.Post
-put-number-returns-2 t c = subst⁻¹ (λ (ds : List ℕ). Writes (c .before .before .before .before .before .before .args .out .now) (c .before .before .before .before .before .before .args .at) ds (set (c .before .before .put-number .last .0) (c .before .before .put-number .result) (48 + c .before .before .before .before .before .before .args .n % 10)) (c .before .before .put-number .result + 1)) (more-digits (c .before .before .before .before .before .before .args .n) (c .before .before .before .before .if1 .left)) (writes-both (c .before .before .put-number .ensures) (writes-byte (c .before .before .put-number .last .0) (c .before .before .put-number .result) (48 + c .before .before .before .before .before .before .args .n % 10)))
+put-number-returns-2 t c =
+    let tenth = c .before .before in
+    let test = tenth .before .before in
+    let start = test .before .before in
+    let n = start .args .n in
+    subst⁻¹
+    (λ (ds : List ℕ). Writes (start .args .out .now) (start .args .at) ds
+    (set (tenth .put-number .last .0) (tenth .put-number .result) (48 + n % 10))
+    (tenth .put-number .result + 1))
+    (more-digits n (test .if1 .left))
+    (writes-both (tenth .put-number .ensures) (writes-byte (tenth .put-number .last .0) (tenth .put-number .result) (48 + n % 10)))
 
 pub +put-number-spec : {M : Type 1} → statement M
 +put-number-spec = close μ-put-number λ t. put-number-lts.spec (put-number-calls t)

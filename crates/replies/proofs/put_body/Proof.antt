@@ -2,30 +2,48 @@
 -- longest body is that of AREA.
 use borrow.Author.Needs.{needs}
 use mathlib.Core.List.{[], _∷_}
-use mathlib.Core.Path.{sym, ap, subst⁻¹, _∙_}
+use mathlib.Core.Path.{sym, ap, _∙_}
 use native.Mathlib.Omega.{arith}
-use Rattle.clerk.specs.Clerk.{Said, says, Refused, said}
-use Rattle.replies.specs.Text.{body, Writes}
+use Rattle.clerk.specs.Clerk.{says, Refused, said}
+use Rattle.replies.proofs.Writing.{says-as}
 use Rattle.replies.proofs.put_body.Statement.{statement}
 use Rattle.replies.proofs.put_body.Tie as tie
 
 enum-known-reply : tie.Need-enum-known-reply
 enum-known-reply c = search needs
 
-put-area-requires : tie.Need-put-area-requires
-put-area-requires c κs = search needs
+slice-aggregate-put-said : tie.Need-slice-aggregate-put-said
+slice-aggregate-put-said c = search needs
+
+slice-aggregate-put-said-2 : tie.Need-slice-aggregate-put-said-2
+slice-aggregate-put-said-2 c = search needs
+
+put-said-requires : tie.Need-put-said-requires
+put-said-requires c κs = search needs
 
 enum-known-reply-2 : tie.Need-enum-known-reply-2
 enum-known-reply-2 c = search needs
 
-put-cell-requires : tie.Need-put-cell-requires
-put-cell-requires c κs = search needs
+slice-aggregate-put-said-3 : tie.Need-slice-aggregate-put-said-3
+slice-aggregate-put-said-3 c = search needs
+
+slice-aggregate-put-said-4 : tie.Need-slice-aggregate-put-said-4
+slice-aggregate-put-said-4 c = search needs
+
+put-said-requires-2 : tie.Need-put-said-requires-2
+put-said-requires-2 c κs = search needs
 
 enum-known-reply-3 : tie.Need-enum-known-reply-3
 enum-known-reply-3 c = search needs
 
-put-found-requires : tie.Need-put-found-requires
-put-found-requires c κs = search needs
+slice-aggregate-put-said-5 : tie.Need-slice-aggregate-put-said-5
+slice-aggregate-put-said-5 c = search needs
+
+slice-aggregate-put-said-6 : tie.Need-slice-aggregate-put-said-6
+slice-aggregate-put-said-6 c = search needs
+
+put-said-requires-3 : tie.Need-put-said-requires-3
+put-said-requires-3 c κs = search needs
 
 enum-known-reply-4 : tie.Need-enum-known-reply-4
 enum-known-reply-4 c = search needs
@@ -33,46 +51,74 @@ enum-known-reply-4 c = search needs
 refusal-number-requires : tie.Need-refusal-number-requires
 refusal-number-requires c κs = search needs
 
-put-refused-requires : tie.Need-put-refused-requires
-put-refused-requires c κs = search needs
+slice-aggregate-put-said-7 : tie.Need-slice-aggregate-put-said-7
+slice-aggregate-put-said-7 c = search needs
+
+slice-aggregate-put-said-8 : tie.Need-slice-aggregate-put-said-8
+slice-aggregate-put-said-8 c = search needs
+
+put-said-requires-4 : tie.Need-put-said-requires-4
+put-said-requires-4 c κs = search needs
 
 same-length : tie.Need-same-length
 same-length c = search needs
 
 returns : tie.Need-returns
-returns c = (subst⁻¹ (λ (s : Said). Writes (c .before .before .before .before .before .before .before .before .args .out .now) (c .before .before .before .before .before .before .before .before .args .at) (body s) (c .before .before .put-area .last .0) (c .before .before .put-area .result)) (ap said (c .before .before .before .before .before .reply .given .1)) (c .before .before .put-area .ensures .0), let far = c .before .before .put-area .ensures .1 in omega arith)
+returns c =
+    let wrote = c .before .before in
+    let known = wrote .before .before .before .before .before .reply .given .1 in
+    (says-as (ap said known) (wrote .put-said .ensures .0), omega arith)
 
 same-length-2 : tie.Need-same-length-2
 same-length-2 c = search needs
 
 returns-2 : tie.Need-returns-2
-returns-2 c = (subst⁻¹ (λ (s : Said). Writes (c .before .before .before .before .before .before .before .before .args .out .now) (c .before .before .before .before .before .before .before .before .args .at) (body s) (c .before .before .put-cell .last .0) (c .before .before .put-cell .result)) (ap said (c .before .before .before .before .before .reply2 .given .1)) (c .before .before .put-cell .ensures .0), let far = c .before .before .put-cell .ensures .1 in omega arith)
+returns-2 c =
+    let wrote = c .before .before in
+    let known = wrote .before .before .before .before .before .reply2 .given .1 in
+    (says-as (ap said known) (wrote .put-said2 .ensures .0), omega arith)
 
 same-length-3 : tie.Need-same-length-3
 same-length-3 c = search needs
 
 returns-3 : tie.Need-returns-3
-returns-3 c = (subst⁻¹ (λ (s : Said). Writes (c .before .before .before .before .before .before .before .before .args .out .now) (c .before .before .before .before .before .before .before .before .args .at) (body s) (c .before .before .put-found .last .0) (c .before .before .put-found .result)) (ap said (c .before .before .before .before .before .reply3 .given .1)) (c .before .before .put-found .ensures .0), let far = c .before .before .put-found .ensures .1 in omega arith)
+returns-3 c =
+    let wrote = c .before .before in
+    let known = wrote .before .before .before .before .before .reply3 .given .1 in
+    (says-as (ap said known) (wrote .put-said3 .ensures .0), omega arith)
 
 same-length-4 : tie.Need-same-length-4
 same-length-4 c = search needs
 
 returns-4 : tie.Need-returns-4
-returns-4 c = (subst⁻¹ (λ (s : Said). Writes (c .before .before .before .before .before .before .before .before .before .args .out .now) (c .before .before .before .before .before .before .before .before .before .args .at) (body s) (c .before .before .put-refused .last .0) (c .before .before .put-refused .result)) (ap said (c .before .before .before .before .before .before .reply4 .given .1) ∙ ap (λ n. says Refused (n ∷ [])) (sym (c .before .before .before .refusal-number .ensures))) (c .before .before .put-refused .ensures .0), let far = c .before .before .put-refused .ensures .1 in omega arith)
+returns-4 c =
+    let wrote = c .before .before in
+    let numbered = wrote .before .before .before .before in
+    let known = numbered .before .before .reply4 .given .1 in
+    let number = numbered .refusal-number .ensures in
+    (says-as (ap said known ∙ ap (λ n. says Refused (n ∷ [])) (sym number)) (wrote .put-said4 .ensures .0), omega arith)
 
 pub put-body-spec : {M : Type 1} → statement M
 put-body-spec =
     tie.close
     (tie.spec
     enum-known-reply
-    put-area-requires
+    slice-aggregate-put-said
+    slice-aggregate-put-said-2
+    put-said-requires
     enum-known-reply-2
-    put-cell-requires
+    slice-aggregate-put-said-3
+    slice-aggregate-put-said-4
+    put-said-requires-2
     enum-known-reply-3
-    put-found-requires
+    slice-aggregate-put-said-5
+    slice-aggregate-put-said-6
+    put-said-requires-3
     enum-known-reply-4
     refusal-number-requires
-    put-refused-requires
+    slice-aggregate-put-said-7
+    slice-aggregate-put-said-8
+    put-said-requires-4
     same-length
     returns
     same-length-2

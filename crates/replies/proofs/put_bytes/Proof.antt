@@ -21,10 +21,18 @@ shared-slice-read-out : tie.Need-shared-slice-read-out Inv-loop μ-loop
 shared-slice-read-out c = c .before .loop-test .taken
 
 add-out : tie.Need-add-out Inv-loop μ-loop
-add-out c = record { fits = let l = c .before .loop-test .taken in let room = c .before .before .before .pre in omega arith }
+add-out c =
+    let start = c .before .before .before in
+    record { fits = let l = c .before .loop-test .taken in let room = start .pre in omega arith }
 
 slice-write-out : tie.Need-slice-write-out Inv-loop μ-loop
-slice-write-out c = let l = c .before .loop-test .taken in let room = c .before .before .before .pre in let same = writes-length (c .before .before .loop .inv .1) in omega arith
+slice-write-out c =
+    let turn = c .before .before in
+    let start = turn .before in
+    let l = c .before .loop-test .taken in
+    let room = start .pre in
+    let same = writes-length (turn .loop .inv .1) in
+    omega arith
 
 add-i : tie.Need-add-i Inv-loop μ-loop
 add-i c = record { fits = let l = c .before .loop-test .taken in omega arith }
@@ -33,16 +41,25 @@ loop-less : tie.Need-loop-less Inv-loop μ-loop
 loop-less c = let l = c .before .loop-test .taken in omega arith
 
 loop-again : tie.Need-loop-again Inv-loop μ-loop
-loop-again c = let l = c .before .loop-test .taken in (omega arith, writes-next (c .before .before .before .args .s .now) (c .before .before .loop .i) l (c .before .before .loop .inv .1))
+loop-again c =
+    let turn = c .before .before in
+    let start = turn .before in
+    let l = c .before .loop-test .taken in
+    (omega arith, writes-next (start .args .s .now) (turn .loop .i) l (turn .loop .inv .1))
 
 add-result : tie.Need-add-result Inv-loop μ-loop
-add-result c = record { fits = let room = c .before .before .pre in omega arith }
+add-result c =
+    let start = c .before .before in
+    record { fits = let room = start .pre in omega arith }
 
 same-length : tie.Need-same-length Inv-loop μ-loop
 same-length c = writes-length (c .before .loop .inv .1)
 
 returns : tie.Need-returns Inv-loop μ-loop
-returns c = writes-all (c .before .before .args .s .now) (c .before .loop .i) (let most = c .before .loop .inv .0 in let last = c .loop-test .left in omega arith) (c .before .loop .inv .1)
+returns c =
+    let start = c .before .before in
+    writes-all (start .args .s .now) (c .before .loop .i) (let most = c .before .loop .inv .0 in let last = c .loop-test .left in omega arith)
+    (c .before .loop .inv .1)
 
 pub put-bytes-spec : {M : Type 1} → statement M
 put-bytes-spec =

@@ -4,28 +4,53 @@ use native.Mathlib.Omega.{arith}
 use lib.ListN.{length-set}
 use Rattle.replies.specs.Text.{text}
 use Rattle.words.proofs.Decimals.{ten-digits}
-use Rattle.replies.proofs.Writing.{writes-byte, writes-both}
+use Rattle.replies.proofs.Writing.{writes-byte, writes-both, number-near}
 use Rattle.replies.proofs.put_line.Statement.{statement}
 use Rattle.replies.proofs.put_line.Tie as tie
 
 put-number-requires : tie.Need-put-number-requires
-put-number-requires c κs = let room = c .before .before .pre in let few = ten-digits (c .before .before .args .line) (c .before .before .fits .line .fits) in omega arith
+put-number-requires c κs =
+    let start = c .before .before in
+    let few = ten-digits (start .args .line) (start .fits .line .fits) in
+    omega arith
 
 put-body-requires : tie.Need-put-body-requires
-put-body-requires c κs = let room = c .before .before .before .before .before .before .pre in let few = ten-digits (c .before .before .before .before .before .before .args .line) (c .before .before .before .before .before .before .fits .line .fits) in let there = c .before .before .before .put-number .ensures .behind in let same = c .before .before .before .put-number .kept .0 in omega arith
+put-body-requires c κs =
+    let numbered = c .before .before .before in
+    let start = numbered .before .before .before in
+    let near = number-near (start .fits .line .fits) (numbered .put-number .ensures) in
+    omega (arith, start .pre, numbered .put-number .kept .0)
 
 slice-write-out : tie.Need-slice-write-out
-slice-write-out c = let room = c .before .before .before .before .before .before .before .before .before .pre in let few = ten-digits (c .before .before .before .before .before .before .before .before .before .args .line) (c .before .before .before .before .before .before .before .before .before .fits .line .fits) in let there = c .before .before .before .before .before .before .put-number .ensures .behind in let far = c .before .before .put-body .ensures .1 in let same = c .before .before .before .before .before .before .put-number .kept .0 in let again = c .before .before .put-body .kept .0 in omega arith
+slice-write-out c =
+    let said = c .before .before in
+    let numbered = said .before .before .before .before in
+    let start = numbered .before .before .before in
+    let near = number-near (start .fits .line .fits) (numbered .put-number .ensures) in
+    omega (arith, start .pre, numbered .put-number .kept .0, said .put-body .kept .0)
 
 add-result : tie.Need-add-result
-add-result c = record { fits = let room = c .before .before .before .before .before .before .before .before .before .pre in let few = ten-digits (c .before .before .before .before .before .before .before .before .before .args .line) (c .before .before .before .before .before .before .before .before .before .fits .line .fits) in let there = c .before .before .before .before .before .before .put-number .ensures .behind in let far = c .before .before .put-body .ensures .1 in omega arith }
+add-result c =
+    let numbered = c .before .before .before .before .before .before in
+    let start = numbered .before .before .before in
+    let near = number-near (start .fits .line .fits) (numbered .put-number .ensures) in
+    omega (arith, start .pre)
 
 same-length : tie.Need-same-length
-same-length c = length-set (c .before .before .put-body .last .0) (c .before .before .put-body .result) 10 ∙ c .before .before .put-body .kept .0 ∙ c .before .before .before .before .before .before .put-number .kept .0
+same-length c =
+    let said = c .before .before in
+    let numbered = said .before .before .before .before in
+    length-set (said .put-body .last .0) (said .put-body .result) 10 ∙ said .put-body .kept .0 ∙ numbered .put-number .kept .0
 
 returns : tie.Need-returns
 unfolding text
-returns c = (writes-both (c .before .before .before .before .before .before .put-number .ensures) (writes-both (c .before .before .put-body .ensures .0) (writes-byte (c .before .before .put-body .last .0) (c .before .before .put-body .result) 10)), let few = ten-digits (c .before .before .before .before .before .before .before .before .before .args .line) (c .before .before .before .before .before .before .before .before .before .fits .line .fits) in let there = c .before .before .before .before .before .before .put-number .ensures .behind in let far = c .before .before .put-body .ensures .1 in omega arith)
+returns c =
+    let said = c .before .before in
+    let numbered = said .before .before .before .before in
+    let start = numbered .before .before .before in
+    let near = number-near (start .fits .line .fits) (numbered .put-number .ensures) in
+    let newline = writes-byte (said .put-body .last .0) (said .put-body .result) 10 in
+    (writes-both (numbered .put-number .ensures) (writes-both (said .put-body .ensures .0) newline), omega arith)
 
 pub put-line-spec : {M : Type 1} → statement M
 put-line-spec =

@@ -4,7 +4,7 @@ use mathlib.Core.Path.{_∙_}
 use native.Mathlib.Omega.{arith}
 use lib.ListN.{length-set}
 use Rattle.words.proofs.Decimals.{ten-digits}
-use Rattle.replies.proofs.Writing.{writes-byte, writes-both}
+use Rattle.replies.proofs.Writing.{writes-byte, writes-both, number-near}
 use Rattle.replies.proofs.put_spaced.Statement.{statement}
 use Rattle.replies.proofs.put_spaced.Tie as tie
 
@@ -15,13 +15,24 @@ add-put-number : tie.Need-add-put-number
 add-put-number c = search needs
 
 put-number-requires : tie.Need-put-number-requires
-put-number-requires c κs = let room = c .before .before .pre in let few = ten-digits (c .before .before .args .n) (c .before .before .fits .n .fits) in let same = length-set (c .before .before .args .out .now) (c .before .before .args .at) 32 in omega arith
+put-number-requires c κs =
+    let start = c .before .before in
+    let few = ten-digits (start .args .n) (start .fits .n .fits) in
+    let same = length-set (start .args .out .now) (start .args .at) 32 in
+    omega arith
 
 same-length : tie.Need-same-length
-same-length c = c .before .before .put-number .kept .0 ∙ length-set (c .before .before .before .before .before .args .out .now) (c .before .before .before .before .before .args .at) 32
+same-length c =
+    let numbered = c .before .before in
+    let start = numbered .before .before .before in
+    numbered .put-number .kept .0 ∙ length-set (start .args .out .now) (start .args .at) 32
 
 returns : tie.Need-returns
-returns c = (writes-both (writes-byte (c .before .before .before .before .before .args .out .now) (c .before .before .before .before .before .args .at) 32) (c .before .before .put-number .ensures), let there = c .before .before .put-number .ensures .behind in let few = ten-digits (c .before .before .before .before .before .args .n) (c .before .before .before .before .before .fits .n .fits) in omega arith)
+returns c =
+    let numbered = c .before .before in
+    let start = numbered .before .before .before in
+    let near = number-near (start .fits .n .fits) (numbered .put-number .ensures) in
+    (writes-both (writes-byte (start .args .out .now) (start .args .at) 32) (numbered .put-number .ensures), omega arith)
 
 pub put-spaced-spec : {M : Type 1} → statement M
 put-spaced-spec =
