@@ -40,7 +40,8 @@ fn put_number(out: &mut [u8], at: usize, n: u32) -> usize
 // A space and a number.
 fn put_spaced(out: &mut [u8], at: usize, n: u32) -> usize
     requires { ⌜ at + 11 ≤ length (now out) ⌝ }
-    ensures { λ r. ⌜ Writes (now (out .entry)) at (spaced n) (now (out .exit)) r × (r ≤ at + 11) ⌝ }
+    ensures written { λ r. ⌜ Writes (now (out .entry)) at (spaced n) (now (out .exit)) r ⌝ }
+    ensures near { λ r. ⌜ r ≤ at + 11 ⌝ }
 {
     out[at] = b' ';
     put_number(out, at + 1, n)
@@ -49,8 +50,8 @@ fn put_spaced(out: &mut [u8], at: usize, n: u32) -> usize
 // A word and numbers, each number after a space.
 fn put_said(out: &mut [u8], at: usize, word: &[u8], numbers: &[u32]) -> usize
     requires { ⌜ at + length (now word) + 11 * length (now numbers) ≤ length (now out) ⌝ }
-    ensures { λ r. ⌜ Writes (now (out .entry)) at (now (word .entry) ++ all-spaced (now (numbers .entry))) (now (out .exit)) r
-        × (r ≤ at + length (now (word .entry)) + 11 * length (now (numbers .entry))) ⌝ }
+    ensures written { λ r. ⌜ Writes (now (out .entry)) at (now (word .entry) ++ all-spaced (now (numbers .entry))) (now (out .exit)) r ⌝ }
+    ensures near { λ r. ⌜ r ≤ at + length (now (word .entry)) + 11 * length (now (numbers .entry)) ⌝ }
 {
     let mut end = put_bytes(out, at, word);
     for i in 0..numbers.len() {
@@ -62,7 +63,8 @@ fn put_said(out: &mut [u8], at: usize, word: &[u8], numbers: &[u32]) -> usize
 // A reply's word and numbers.
 fn put_body(out: &mut [u8], at: usize, reply: Reply) -> usize
     requires { ⌜ at + 60 ≤ length (now out) ⌝ }
-    ensures { λ r. ⌜ Writes (now (out .entry)) at (body (said reply)) (now (out .exit)) r × (r ≤ at + 60) ⌝ }
+    ensures written { λ r. ⌜ Writes (now (out .entry)) at (body (said reply)) (now (out .exit)) r ⌝ }
+    ensures near { λ r. ⌜ r ≤ at + 60 ⌝ }
 {
     match reply {
         Reply::AreaSet {
@@ -93,7 +95,8 @@ fn put_body(out: &mut [u8], at: usize, reply: Reply) -> usize
 // A reply's whole line.
 fn put_line(out: &mut [u8], at: usize, line: u32, reply: Reply) -> usize
     requires { ⌜ at + longest ≤ length (now out) ⌝ }
-    ensures { λ r. ⌜ Writes (now (out .entry)) at (text line (said reply)) (now (out .exit)) r × (r ≤ at + longest) ⌝ }
+    ensures written { λ r. ⌜ Writes (now (out .entry)) at (text line (said reply)) (now (out .exit)) r ⌝ }
+    ensures near { λ r. ⌜ r ≤ at + longest ⌝ }
 {
     let a = put_number(out, at, line);
     let b = put_body(out, a, reply);
@@ -104,7 +107,8 @@ fn put_line(out: &mut [u8], at: usize, line: u32, reply: Reply) -> usize
 // The line after which none is read.
 fn put_stop(out: &mut [u8], at: usize, line: u32) -> usize
     requires { ⌜ at + longest ≤ length (now out) ⌝ }
-    ensures { λ r. ⌜ Writes (now (out .entry)) at (stop line) (now (out .exit)) r × (r ≤ at + longest) ⌝ }
+    ensures written { λ r. ⌜ Writes (now (out .entry)) at (stop line) (now (out .exit)) r ⌝ }
+    ensures near { λ r. ⌜ r ≤ at + longest ⌝ }
 {
     let a = put_number(out, at, line);
     put_bytes(out, a, b" STOP\n")
@@ -122,7 +126,8 @@ pub fn has_room(out: &[u8], at: usize) -> bool
 
 // Writes the reply to a line at a place of a buffer, and says which place is after it. Nothing is written if the longest text would not fit.
 pub fn write_reply(out: &mut [u8], at: usize, line: u32, reply: Reply) -> usize
-    ensures { λ r. ⌜ Writes (now (out .entry)) at (if-room (now (out .entry)) at (text line (said reply))) (now (out .exit)) r × (r ≤ at + longest) ⌝ }
+    ensures written { λ r. ⌜ Writes (now (out .entry)) at (if-room (now (out .entry)) at (text line (said reply))) (now (out .exit)) r ⌝ }
+    ensures near { λ r. ⌜ r ≤ at + longest ⌝ }
 {
     if !has_room(out, at) {
         return at;
@@ -132,7 +137,8 @@ pub fn write_reply(out: &mut [u8], at: usize, line: u32, reply: Reply) -> usize
 
 // The same for the line after which none is read.
 pub fn write_stop(out: &mut [u8], at: usize, line: u32) -> usize
-    ensures { λ r. ⌜ Writes (now (out .entry)) at (if-room (now (out .entry)) at (stop line)) (now (out .exit)) r × (r ≤ at + longest) ⌝ }
+    ensures written { λ r. ⌜ Writes (now (out .entry)) at (if-room (now (out .entry)) at (stop line)) (now (out .exit)) r ⌝ }
+    ensures near { λ r. ⌜ r ≤ at + longest ⌝ }
 {
     if !has_room(out, at) {
         return at;
