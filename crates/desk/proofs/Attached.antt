@@ -13,7 +13,7 @@ use lib.Seq.{drop-drop, slice, slice-empty}
 use Rattle.replies.specs.Text.{longest, Writes, if-room}
 use Rattle.replies.proofs.Writing.{stands-written}
 use Rattle.desk.specs.declared.Desk.{Desk}
-use Rattle.desk.specs.Steps.{prints-last, Result, still, fed, in-order, fed-any, prints-last-any, Feeds}
+use Rattle.desk.specs.Steps.{prints-last, still, fed, in-order, fed-any, prints-last-any, Lent, Handed, due, Feeds}
 use Rattle.desk.specs.Runs.{Printed, ended, closed, piece-fed}
 use Rattle.desk.proofs.Bytes.{all-written, writes-as}
 
@@ -35,30 +35,34 @@ nothing : {t t′ : List ℕ} {at end : ℕ} → Writes t at [] t′ end → sli
 nothing {t} {t′} {at} w = ap (λ n. slice at n t′) (w .behind ∙ add-zero at) ∙ slice-empty at t′
 
 -- A call of `feed` that meets its promise, and a run from where it left the desk.
-module _ (d : Desk) (kept chunk : List ℕ) {d′ : Desk} {kept′ out out′ : List ℕ} {from at next end : ℕ}
-    (f : Feeds (fed-any d kept at (length out) (drop from chunk)) from out at d′ kept′ next out′ end) (fits : at ≤ length out → end ≤ length out) where
-  abbrev r : Result
-  r = fed-any d kept at (length out) (drop from chunk)
+module _ {d : Desk} {lent : Lent} {back : Handed} (f : Feeds d lent back) (within : lent .at ≤ length (lent .out) → back .at ≤ length (lent .out)) where
+  abbrev piece : List ℕ
+  piece = drop (lent .from) (lent .chunk)
 
-  left-is : drop next chunk ≡ drop (r .taken) (drop from chunk)
-  left-is = ap (λ n. drop n chunk) (f .next-is) ∙ sym (drop-drop (r .taken) from chunk)
+  abbrev wrote : List ℕ
+  wrote = slice (lent .at) (back .at) (back .out)
 
-  wrote : slice at end out′ ≡ r .printed
-  wrote = by (leb at (length out)) refl
+  left-is : drop (back .from) (lent .chunk) ≡ drop (due d lent .taken) piece
+  left-is = ap (λ n. drop n (lent .chunk)) (f .from-is) ∙ sym (drop-drop (due d lent .taken) (lent .from) (lent .chunk))
+
+  wrote-is : wrote ≡ due d lent .printed
+  wrote-is = by (leb (lent .at) (length (lent .out))) refl
     where
-      by : (t : Bool) → leb at (length out) ≡ t → slice at end out′ ≡ r .printed
-      by true e = stands-written (f .written-is) (fits (leb-true at (length out) e))
+      by : (t : Bool) → leb (lent .at) (length (lent .out)) ≡ t → wrote ≡ due d lent .printed
+      by true e = stands-written (f .written-is) (within (leb-true (lent .at) (length (lent .out)) e))
       by false e =
-          let none = none-behind d kept at (length out) (drop from chunk) (leb-false at (length out) e) in
+          let none = none-behind d (lent .kept) (lent .at) (length (lent .out)) piece (leb-false (lent .at) (length (lent .out)) e) in
           nothing (writes-as none (f .written-is)) ∙ sym none
 
-  pub feed-is-a-step : (rest : List ℕ) {printed : List ℕ} → Printed d′ kept′ (drop next chunk ++ rest) printed → Printed d kept (drop from chunk ++ rest) (slice at end out′ ++ printed)
+  pub feed-is-a-step : (rest : List ℕ) {printed : List ℕ} → Printed (back .desk) (back .kept) (drop (back .from) (lent .chunk) ++ rest) printed
+      → Printed d (lent .kept) (piece ++ rest) (wrote ++ printed)
   feed-is-a-step rest {printed} run =
-      subst (λ (zs : List ℕ). Printed d kept (drop from chunk ++ rest) (zs ++ printed)) (sym wrote)
-      (piece-fed d kept at (length out) (drop from chunk) rest printed
-      (subst (λ (e : Desk). Printed e (r .kept) (drop (r .taken) (drop from chunk) ++ rest) printed) (f .desk-is)
-      (subst (λ (k : List ℕ). Printed d′ k (drop (r .taken) (drop from chunk) ++ rest) printed) (f .kept-is)
-      (subst (λ (zs : List ℕ). Printed d′ kept′ (zs ++ rest) printed) left-is run))))
+      let r = due d lent in
+      subst (λ (zs : List ℕ). Printed d (lent .kept) (piece ++ rest) (zs ++ printed)) (sym wrote-is)
+      (piece-fed d (lent .kept) (lent .at) (length (lent .out)) piece rest printed
+      (subst (λ (e : Desk). Printed e (r .kept) (drop (r .taken) piece ++ rest) printed) (f .desk-is)
+      (subst (λ (k : List ℕ). Printed (back .desk) k (drop (r .taken) piece ++ rest) printed) (f .kept-is)
+      (subst (λ (zs : List ℕ). Printed (back .desk) (back .kept) (zs ++ rest) printed) left-is run))))
 
 -- A call of `finish` that meets its promise, with room, at the end of the input; and one with a desk that reads no more, wherever the input stands.
 module _ (d : Desk) (kept : List ℕ) {out out′ : List ℕ} {at end : ℕ} (w : Writes out at (if-room out at (prints-last-any d kept)) out′ end) where

@@ -12,7 +12,7 @@ use lib.Seq.{drop-cons}
 use Rattle.replies.specs.Text.{longest, Writes}
 use Rattle.replies.proofs.Writing.{writes-both, writes-none, writes-length}
 use Rattle.desk.specs.declared.Desk.{Desk}
-use Rattle.desk.specs.Steps.{stopped, behind-newline, next-desk, next-kept, prints, Result, still, onward, fed, in-order, fed-any, Feeds}
+use Rattle.desk.specs.Steps.{stopped, behind-newline, next-desk, next-kept, prints, Result, still, onward, fed, in-order, fed-any, Lent, Handed, Feeds}
 use Rattle.desk.proofs.Bytes.{ordered, writes-as}
 
 -- n bytes taken and some text printed before a result
@@ -120,24 +120,35 @@ module _ {d₀ : Desk} {kept₀ chunk : List ℕ} {from : ℕ} {out₀ : List �
       }
 
   -- where it stops
-  left : fed d kept p (length out₀) (drop i chunk) ≡ still d kept → Feeds (fed-any d₀ kept₀ at (length out₀) (drop from chunk)) from out₀ at d kept i out p
+  abbrev started : Lent
+  started = record { kept = kept₀; chunk = chunk; from = from; out = out₀; at = at }
+
+  abbrev stands : Handed
+  stands = record { desk = d; kept = kept; from = i; out = out; at = p }
+
+  left : fed d kept p (length out₀) (drop i chunk) ≡ still d kept → Feeds d₀ started stands
   left e =
       let all = m .due ∙ ap (before (m .count) (m .printed)) e in
       record {
         desk-is = sym (ap (λ (r : Result). r .desk) all);
         kept-is = sym (ap (λ (r : Result). r .kept) all);
-        next-is = let taken = ap (λ (r : Result). r .taken) all in let there = m .here in omega arith;
+        from-is = let taken = ap (λ (r : Result). r .taken) all in let there = m .here in omega arith;
         written-is = writes-as (sym (ap (λ (r : Result). r .printed) all ∙ append-nil (m .printed))) (m .written);
       }
 
-  pub no-room-left : i < length chunk → leb (p + longest) (length out) ≡ false → Feeds (fed-any d₀ kept₀ at (length out₀) (drop from chunk)) from out₀ at d kept i out p
+  pub no-room-left : i < length chunk → leb (p + longest) (length out) ≡ false → Feeds d₀ started stands
   no-room-left l room = left (fed-full d kept p (length out₀) chunk i l (subst (λ (n : ℕ). leb (p + longest) n ≡ false) out-size room))
 
-  pub no-byte-left : length chunk ≤ i → Feeds (fed-any d₀ kept₀ at (length out₀) (drop from chunk)) from out₀ at d kept i out p
+  pub no-byte-left : length chunk ≤ i → Feeds d₀ started stands
   no-byte-left l = left (fed-end d kept p (length out₀) chunk i l)
 
 -- a desk that is not in order
-pub untouched : (d : Desk) (kept chunk : List ℕ) (from : ℕ) (out : List ℕ) (at : ℕ) → in-order d kept ≡ false
-    → Feeds (fed-any d kept at (length out) (drop from chunk)) from out at d kept from out at
-untouched d kept chunk from out at e =
-    rw e (record { desk-is = refl; kept-is = refl; next-is = sym (add-zero from); written-is = writes-none out at })
+pub untouched : (d : Desk) (lent : Lent) → in-order d (lent .kept) ≡ false
+    → Feeds d lent (record { desk = d; kept = lent .kept; from = lent .from; out = lent .out; at = lent .at })
+untouched d lent e =
+    record {
+      desk-is = rw e refl;
+      kept-is = rw e refl;
+      from-is = rw e (sym (add-zero (lent .from)));
+      written-is = rw e (writes-none (lent .out) (lent .at));
+    }

@@ -9,7 +9,7 @@ use lib.Dec.{leb, ltb, eqb}
 use lib.ListN.{length, drop}
 use Rattle.replies.specs.Text.{longest}
 use Rattle.desk.specs.declared.Desk.{Desk}
-use Rattle.desk.specs.Steps.{next-desk, next-kept, prints, Result, still, onward, fed, in-order, fed-any, Feeds}
+use Rattle.desk.specs.Steps.{next-desk, next-kept, prints, Result, still, onward, fed, in-order, fed-any, Lent, Handed, Feeds}
 use Rattle.desk.proofs.Bytes.{ordered, in-order-is}
 use Rattle.desk.proofs.Feeding.{still-ordered, fed-byte, kept-length}
 
@@ -37,12 +37,16 @@ fed-in-order d kept ok at size bytes =
     let both = ordered d kept ok in
     ap (λ (r : Result). in-order (r .desk) (r .kept)) (is-fed d kept ok at size bytes) ∙ fed-ordered d kept at size bytes (both .0) (both .1)
 
-module _ (d : Desk) (kept : List ℕ) (ok : in-order d kept ≡ true) (at size from : ℕ) (chunk : List ℕ) {out : List ℕ} {d′ : Desk} {kept′ : List ℕ} {next : ℕ} {written : List ℕ} {end : ℕ}
-    (f : Feeds (fed-any d kept at size (drop from chunk)) from out at d′ kept′ next written end) where
-  pub stays-in-order : in-order d′ kept′ ≡ true
-  stays-in-order = ap₂ in-order (f .desk-is) (f .kept-is) ∙ fed-in-order d kept ok at size (drop from chunk)
+-- a call of `feed` that meets its promise, with a desk that is in order
+module _ {d : Desk} {lent : Lent} {back : Handed} (f : Feeds d lent back) (ok : in-order d (lent .kept) ≡ true) where
+  pub stays-in-order : in-order (back .desk) (back .kept) ≡ true
+  stays-in-order =
+      ap₂ in-order (f .desk-is) (f .kept-is) ∙ fed-in-order d (lent .kept) ok (lent .at) (length (lent .out)) (drop (lent .from) (lent .chunk))
 
-  pub goes-on : at + longest ≤ size → from < length chunk → from < next
+  pub goes-on : lent .at + longest ≤ length (lent .out) → lent .from < length (lent .chunk) → lent .from < back .from
   goes-on room l =
-      let taken = f .next-is ∙ ap (λ (r : Result). from + r .taken) (is-fed d kept ok at size (drop from chunk) ∙ fed-byte d kept at size chunk from l (le-leb (at + longest) size room)) in
+      let size = length (lent .out) in
+      let all = is-fed d (lent .kept) ok (lent .at) size (drop (lent .from) (lent .chunk)) in
+      let byte = fed-byte d (lent .kept) (lent .at) size (lent .chunk) (lent .from) l (le-leb (lent .at + longest) size room) in
+      let taken = f .from-is ∙ ap (λ (r : Result). lent .from + r .taken) (all ∙ byte) in
       omega arith

@@ -17,15 +17,19 @@ use Rattle.replies.specs.Text.{text, longest, Writes, if-room}
 use Rattle.replies.proofs.Promises.{writes-one}
 use Rattle.desk.specs.declared.Desk.{Desk}
 use Rattle.desk.specs.Desk.{lines-of, answers, output}
-use Rattle.desk.specs.Steps.{at-first, stopped, prints-last-any, Result, Feeds}
+use Rattle.desk.specs.Steps.{at-first, stopped, prints-last-any, Lent, Handed, Feeds}
 
 -- Two results of `feed` that meet its promise are one: desk, line kept, place in the piece, output and place in it. Of `finish`, `writes-one` says it.
-pub feed-one : {f : Result} {from at next next′ end end′ : ℕ} {d d′ : Desk} {out kept kept′ written written′ : List ℕ}
-    → Feeds f from out at d kept next written end → Feeds f from out at d′ kept′ next′ written′ end′
-    → (d ≡ d′) × (kept ≡ kept′) × (next ≡ next′) × (written ≡ written′) × (end ≡ end′)
-feed-one one other =
-    let text = writes-one (one .written-is) (other .written-is) in
-    (one-equation (one .desk-is) (other .desk-is), one-equation (one .kept-is) (other .kept-is), one-equation (one .next-is) (other .next-is), text .0, text .1)
+pub feed-one : {d : Desk} {lent : Lent} {one other : Handed} → Feeds d lent one → Feeds d lent other → one ≡ other
+feed-one f g =
+    let text = writes-one (f .written-is) (g .written-is) in
+    λ j. record {
+      desk = one-equation (f .desk-is) (g .desk-is) j;
+      kept = one-equation (f .kept-is) (g .kept-is) j;
+      from = one-equation (f .from-is) (g .from-is) j;
+      out = text .0 j;
+      at = text .1 j;
+    }
 
 -- Turned away: a reader that answers its first line and gives every other line the same answer. For an empty line and then N 1 with no area the answers
 -- are 6 and 7.

@@ -6,7 +6,7 @@ use mathlib.Core.List.{List, [], _∷_, _++_}
 use mathlib.Core.Path.{_≡_}
 use Prim.Native.Nat.{ℕ, suc, _+_}
 use lib.Dec.{leb, ltb, eqb}
-use lib.ListN.{length, take, set}
+use lib.ListN.{length, take, drop, set}
 use Rattle.clerk.specs.declared.Clerk.the-variants.{NoArea}
 use Rattle.clerk.specs.Clerk.{after, reply}
 use Rattle.replies.specs.Text.{text, stop, longest, Writes}
@@ -77,9 +77,29 @@ fed-any d kept at size bytes = cond (in-order d kept) (fed d kept at size bytes)
 abbrev pub prints-last-any : Desk → (kept : List ℕ) → List ℕ
 prints-last-any d kept = cond (in-order d kept) (prints-last d kept) []
 
--- A piece that was fed, from a place of it on, with an output from a place on: what is left of each.
-pub record Feeds (f : Result) (from : ℕ) (out : List ℕ) (at : ℕ) (desk : Desk) (kept : List ℕ) (next : ℕ) (written : List ℕ) (end : ℕ) : Type 0 where
-  pub desk-is : desk ≡ f .desk
-  pub kept-is : kept ≡ f .kept
-  pub next-is : next ≡ from + f .taken
-  pub written-is : Writes out at (f .printed) written end
+-- What a call of `feed` is lent: what is kept of the line that is begun, a chunk and the place in it to go on from, an output and the place in it to
+-- write at.
+pub record Lent : Type 0 where
+  pub kept : List ℕ
+  pub chunk : List ℕ
+  pub from : ℕ
+  pub out : List ℕ
+  pub at : ℕ
+
+-- What it leaves: the desk, what is then kept, the next place in the chunk, the output and the place after what was written.
+pub record Handed : Type 0 where
+  pub desk : Desk
+  pub kept : List ℕ
+  pub from : ℕ
+  pub out : List ℕ
+  pub at : ℕ
+
+-- What is due of what is lent, and that it was done.
+abbrev pub due : Desk → Lent → Result
+due d lent = fed-any d (lent .kept) (lent .at) (length (lent .out)) (drop (lent .from) (lent .chunk))
+
+pub record Feeds (d : Desk) (lent : Lent) (back : Handed) : Type 0 where
+  pub desk-is : back .desk ≡ due d lent .desk
+  pub kept-is : back .kept ≡ due d lent .kept
+  pub from-is : back .from ≡ lent .from + due d lent .taken
+  pub written-is : Writes (lent .out) (lent .at) (due d lent .printed) (back .out) (back .at)

@@ -2,10 +2,10 @@
 use clerk::Clerk;
 ghost use mathlib.Core.Path.{_≡_};
 ghost use Prim.Native.Nat.{_+_, _≤_};
-ghost use lib.ListN.{length, drop};
+ghost use lib.ListN.{length};
 ghost use Rattle.clerk.specs.Clerk.{after, reply};
 ghost use Rattle.replies.specs.Text.{text, longest, Writes, if-room};
-ghost use Rattle.desk.specs.Steps.{begun-line, at-first, stopped, behind-newline, longer, with-byte, next-desk, next-kept, prints, in-order, fed-any, prints-last-any, Feeds};
+ghost use Rattle.desk.specs.Steps.{begun-line, at-first, stopped, behind-newline, longer, with-byte, next-desk, next-kept, prints, in-order, prints-last-any, Feeds};
 
 // How many bytes of a line are kept: they decide what it is answered.
 const KEPT: usize = 65;
@@ -55,7 +55,8 @@ pub fn closed(desk: Desk) -> Desk
 // A byte of a line is kept, if it is among those that decide.
 fn keep(desk: Desk, kept: &mut [u8], b: u8) -> Desk
     requires { ⌜ 65 ≤ length (now kept) ⌝ }
-    ensures { λ r. ⌜ (r ≡ longer desk) × (now (kept .exit) ≡ with-byte desk (now (kept .entry)) b) ⌝ }
+    ensures counted { λ r. ⌜ r ≡ longer desk ⌝ }
+    ensures stored { λ r. ⌜ now (kept .exit) ≡ with-byte desk (now (kept .entry)) b ⌝ }
 {
     let clerk = desk.clerk;
     let begun = desk.begun;
@@ -80,8 +81,10 @@ struct Told {
 // The reply to the line that is begun is written.
 fn tell(desk: Desk, kept: &[u8], out: &mut [u8], at: usize) -> Told
     requires { ⌜ (desk .begun ≤ 65) × (65 ≤ length (now kept)) ⌝ }
-    ensures { λ r. ⌜ (r .clerk ≡ after (desk .clerk) (begun-line desk (now (kept .entry))))
-        × Writes (now (out .entry)) at (if-room (now (out .entry)) at (text (desk .line) (reply (desk .clerk) (begun-line desk (now (kept .entry)))))) (now (out .exit)) (r .at) × (r .at ≤ at + longest) ⌝ }
+    ensures left { λ r. ⌜ r .clerk ≡ after (desk .clerk) (begun-line desk (now (kept .entry))) ⌝ }
+    ensures written { λ r. ⌜ Writes (now (out .entry)) at (if-room (now (out .entry)) at (text (desk .line) (reply (desk .clerk) (begun-line desk (now (kept .entry))))))
+        (now (out .exit)) (r .at) ⌝ }
+    ensures near { λ r. ⌜ r .at ≤ at + longest ⌝ }
 {
     let clerk = desk.clerk;
     let begun = desk.begun;
@@ -98,8 +101,10 @@ fn tell(desk: Desk, kept: &[u8], out: &mut [u8], at: usize) -> Told
 // The line that is begun is answered, and the next one is begun.
 fn answer(desk: Desk, kept: &[u8], out: &mut [u8], at: usize) -> Stepped
     requires { ⌜ (desk .begun ≤ 65) × (65 ≤ length (now kept)) × (desk .line ≤ 65535) ⌝ }
-    ensures { λ r. ⌜ (r .desk ≡ behind-newline desk (now (kept .entry)))
-        × Writes (now (out .entry)) at (if-room (now (out .entry)) at (text (desk .line) (reply (desk .clerk) (begun-line desk (now (kept .entry)))))) (now (out .exit)) (r .at) × (r .at ≤ at + longest) ⌝ }
+    ensures next { λ r. ⌜ r .desk ≡ behind-newline desk (now (kept .entry)) ⌝ }
+    ensures written { λ r. ⌜ Writes (now (out .entry)) at (if-room (now (out .entry)) at (text (desk .line) (reply (desk .clerk) (begun-line desk (now (kept .entry))))))
+        (now (out .exit)) (r .at) ⌝ }
+    ensures near { λ r. ⌜ r .at ≤ at + longest ⌝ }
 {
     let told = tell(desk, kept, out, at);
     let clerk = told.clerk;
@@ -118,8 +123,10 @@ fn answer(desk: Desk, kept: &[u8], out: &mut [u8], at: usize) -> Stepped
 // One byte.
 fn step(desk: Desk, kept: &mut [u8], b: u8, out: &mut [u8], at: usize) -> Stepped
     requires { ⌜ (desk .begun ≤ 65) × (65 ≤ length (now kept)) × (at + longest ≤ length (now out)) ⌝ }
-    ensures { λ r. ⌜ (r .desk ≡ next-desk desk (now (kept .entry)) b) × (now (kept .exit) ≡ next-kept desk (now (kept .entry)) b)
-        × Writes (now (out .entry)) at (prints desk (now (kept .entry)) b) (now (out .exit)) (r .at) × (r .at ≤ at + longest) ⌝ }
+    ensures next { λ r. ⌜ r .desk ≡ next-desk desk (now (kept .entry)) b ⌝ }
+    ensures stored { λ r. ⌜ now (kept .exit) ≡ next-kept desk (now (kept .entry)) b ⌝ }
+    ensures written { λ r. ⌜ Writes (now (out .entry)) at (prints desk (now (kept .entry)) b) (now (out .exit)) (r .at) ⌝ }
+    ensures near { λ r. ⌜ r .at ≤ at + longest ⌝ }
 {
     if desk.over {
         return Stepped { desk: desk, at: at };
@@ -165,8 +172,10 @@ pub fn feed(
     out: &mut [u8],
     at: usize,
 ) -> Fed
-    ensures { λ r. ⌜ Feeds (fed-any desk (now (kept .entry)) at (length (now (out .entry))) (drop from (now (chunk .entry)))) from (now (out .entry)) at (r .desk) (now (kept .exit)) (r .from) (now (out .exit)) (r .at)
-        × (at ≤ length (now (out .entry)) → r .at ≤ length (now (out .entry))) ⌝ }
+    ensures fed { λ r. ⌜ Feeds desk
+        (record { kept = now (kept .entry); chunk = now (chunk .entry); from = from; out = now (out .entry); at = at })
+        (record { desk = r .desk; kept = now (kept .exit); from = r .from; out = now (out .exit); at = r .at }) ⌝ }
+    ensures within { λ r. ⌜ (at ≤ length (now (out .entry)) → r .at ≤ length (now (out .entry))) ⌝ }
 {
     let mut d = desk;
     let mut i = from;
@@ -200,7 +209,8 @@ pub fn feed(
 
 // Answers the line that is begun, at the end of the input, or says STOP for a line 65,536.
 pub fn finish(desk: Desk, kept: &[u8], out: &mut [u8], at: usize) -> usize
-    ensures { λ r. ⌜ Writes (now (out .entry)) at (if-room (now (out .entry)) at (prints-last-any desk (now (kept .entry)))) (now (out .exit)) r × (r ≤ at + longest) ⌝ }
+    ensures written { λ r. ⌜ Writes (now (out .entry)) at (if-room (now (out .entry)) at (prints-last-any desk (now (kept .entry)))) (now (out .exit)) r ⌝ }
+    ensures near { λ r. ⌜ r ≤ at + longest ⌝ }
 {
     if !is_in_order(desk, kept) {
         return at;

@@ -9,16 +9,26 @@ use native.Mathlib.Omega.{arith}
 use Rattle.desk.specs.declared.Desk.{Desk}
 
 tell-requires : tie.Need-tell-requires
-tell-requires c κs = (c .before .before .before .pre .0, c .before .before .before .pre .1)
+tell-requires c κs =
+    let start = c .before .before .before in
+    (start .pre .0, start .pre .1)
 
 add-t10 : tie.Need-add-t10
-add-t10 c = record { fits = let few = c .before .before .before .before .before .before .before .pre .2 in omega arith }
+add-t10 c =
+    let told = c .before .before in
+    let start = told .before .before .before .before .before in
+    record { fits = let few = start .pre .2 in omega arith }
 
 same-length : tie.Need-same-length
 same-length c = search needs
 
 returns : tie.Need-returns
-returns c = (ap {B = Desk} (λ k. record { clerk = k; line = c .before .before .before .before .before .before .before .args .desk .line + 1; begun = 0; over = false }) (c .before .before .before .tell .ensures .0), c .before .before .before .tell .ensures .1, c .before .before .before .tell .ensures .2)
+returns c =
+    let told = c .before .before .before in
+    let start = told .before .before .before .before in (
+      ap {B = Desk} (λ k. record { clerk = k; line = start .args .desk .line + 1; begun = 0; over = false }) (told .tell .ensures .0),
+      told .tell .ensures .1,
+    )
 
 pub answer-spec : {M : Type 1} → statement M
 answer-spec = tie.close (tie.spec tell-requires add-t10 same-length returns)

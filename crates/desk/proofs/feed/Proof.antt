@@ -22,7 +22,7 @@ same-length : tie.Need-same-length Inv-loop μ-loop
 same-length c = refl
 
 returns : tie.Need-returns Inv-loop μ-loop
-returns c = (untouched _ _ _ _ _ _ (sym (c .before .is-in-order .ensures) ∙ not-true _ (c .if1 .taken)), λ l. l)
+returns c = (untouched _ _ (sym (c .before .is-in-order .ensures) ∙ not-true _ (c .if1 .taken)), λ l. l)
 
 loop-holds : tie.Need-loop-holds Inv-loop μ-loop
 loop-holds c = begin _ _ _ _ _ _ (sym (c .before .is-in-order .ensures) ∙ not-false _ (c .if1 .left))
@@ -37,22 +37,45 @@ same-length-3 : tie.Need-same-length-3 Inv-loop μ-loop
 same-length-3 c = out-size (c .before .before .before .before .loop .inv)
 
 returns-2 : tie.Need-returns-2 Inv-loop μ-loop
-returns-2 c = (no-room-left (c .before .before .before .before .loop .inv) (c .before .before .before .loop-test .taken) (sym (c .before .has-room .ensures) ∙ not-true _ (c .if2 .taken)), c .before .before .before .before .loop .inv .fits)
+returns-2 c =
+    let test = c .before .before .before in
+    let turn = test .before in
+    (no-room-left (turn .loop .inv) (test .loop-test .taken) (sym (c .before .has-room .ensures) ∙ not-true _ (c .if2 .taken)), turn .loop .inv .fits)
 
 shared-slice-read-step : tie.Need-shared-slice-read-step Inv-loop μ-loop
 shared-slice-read-step c = c .before .before .before .before .before .loop-test .taken
 
 step-requires : tie.Need-step-requires Inv-loop μ-loop
-step-requires c κs = (c .before .before .before .before .before .before .before .loop .inv .begun-few, c .before .before .before .before .before .before .before .loop .inv .kept-room, leb-true _ _ (sym (c .before .before .before .before .has-room .ensures) ∙ not-false _ (c .before .before .before .if2 .left)))
+step-requires c κs =
+    let roomy = c .before .before .before in
+    let asked = roomy .before in
+    let turn = asked .before .before .before in
+    (turn .loop .inv .begun-few, turn .loop .inv .kept-room, leb-true _ _ (sym (asked .has-room .ensures) ∙ not-false _ (roomy .if2 .left)))
 
 add-i : tie.Need-add-i Inv-loop μ-loop
-add-i c = record { fits = let l = c .before .before .before .before .before .before .before .before .before .before .before .before .loop-test .taken in omega arith }
+add-i c =
+    let lent = c .before .before .before .before .before .before in
+    let test = lent .before .before .before .before .before .before in
+    let asked = test .before .before .before .before in
+    let start = asked .before .before .before .before in
+    omega (arith, test .loop-test .taken, start .good .1 .1 .0)
 
 loop-less : tie.Need-loop-less Inv-loop μ-loop
-loop-less c = let l = c .before .before .before .before .before .before .before .before .before .before .before .before .loop-test .taken in omega arith
+loop-less c =
+    let lent = c .before .before .before .before .before .before in
+    let more = lent .before .before .before .before .before .before .loop-test .taken in
+    omega arith
 
 loop-again : tie.Need-loop-again Inv-loop μ-loop
-loop-again c = one-on (c .before .before .before .before .before .before .before .before .before .before .before .before .before .loop .inv) (c .before .before .before .before .before .before .before .before .before .before .before .before .loop-test .taken) (sym (c .before .before .before .before .before .before .before .before .before .before .has-room .ensures) ∙ not-false _ (c .before .before .before .before .before .before .before .before .before .if2 .left)) _ (c .before .before .before .before .before .step .ensures .0) _ (c .before .before .before .before .before .step .ensures .1) (c .before .before .before .before .before .step .kept .1 .0) _ _ (c .before .before .before .before .before .step .ensures .2) (c .before .before .before .before .before .step .ensures .3)
+loop-again c =
+    let stepped = c .before .before .before .before .before in
+    let roomy = stepped .before .before .before .before in
+    let asked = roomy .before in
+    let test = asked .before .before in
+    let room = sym (asked .has-room .ensures) ∙ not-false _ (roomy .if2 .left) in
+    let promised = stepped .step .ensures in
+    one-on (test .before .loop .inv) (test .loop-test .taken) room _ (promised .0) _ (promised .1 .0) (stepped .step .kept .1 .0) _ _
+    (promised .1 .1 .0) (promised .1 .1 .1)
 
 same-length-4 : tie.Need-same-length-4 Inv-loop μ-loop
 same-length-4 c = c .before .loop .inv .kept-size

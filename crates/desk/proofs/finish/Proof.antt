@@ -17,22 +17,50 @@ is-in-order-requires : tie.Need-is-in-order-requires
 is-in-order-requires c κs = search needs
 
 returns : tie.Need-returns
-returns c = (rw (sym (c .before .is-in-order .ensures) ∙ not-true _ (c .if1 .taken)) (writes-nothing (c .before .before .before .before .args .out .now) (c .before .before .before .before .args .at) (leb (c .before .before .before .before .args .at + longest) (length (c .before .before .before .before .args .out .now))) true), omega arith)
+returns c =
+    let start = c .before .before .before .before in
+    let out = start .args .out .now in
+    let at = start .args .at in
+    (rw (sym (c .before .is-in-order .ensures) ∙ not-true _ (c .if1 .taken)) (writes-nothing out at (leb (at + longest) (length out)) true), omega arith)
 
 returns-2 : tie.Need-returns-2
-returns-2 c = (rw (c .if2 .taken) (writes-nothing (c .before .before .before .before .before .args .out .now) (c .before .before .before .before .before .args .at) (leb (c .before .before .before .before .before .args .at + longest) (length (c .before .before .before .before .before .args .out .now))) (in-order (c .before .before .before .before .before .args .desk) (c .before .before .before .before .before .args .kept .now))), omega arith)
+returns-2 c =
+    let start = c .before .before .before .before .before in
+    let out = start .args .out .now in
+    let at = start .args .at in
+    (rw (c .if2 .taken) (writes-nothing out at (leb (at + longest) (length out)) (in-order (start .args .desk) (start .args .kept .now))), omega arith)
 
 returns-3 : tie.Need-returns-3
-returns-3 c = (rw (c .before .before .if2 .left, eq-eqb _ 0 (c .if3 .taken)) (writes-nothing (c .before .before .before .before .before .before .before .args .out .now) (c .before .before .before .before .before .before .before .args .at) (leb (c .before .before .before .before .before .before .before .args .at + longest) (length (c .before .before .before .before .before .before .before .args .out .now))) (in-order (c .before .before .before .before .before .before .before .args .desk) (c .before .before .before .before .before .before .before .args .kept .now))), omega arith)
+returns-3 c =
+    let reading = c .before .before in
+    let start = reading .before .before .before .before .before in
+    let out = start .args .out .now in
+    let at = start .args .at in (
+      rw (reading .if2 .left, eq-eqb _ 0 (c .if3 .taken))
+          (writes-nothing out at (leb (at + longest) (length out)) (in-order (start .args .desk) (start .args .kept .now))),
+      omega arith,
+    )
 
 tell-requires : tie.Need-tell-requires
-tell-requires c κs = ordered (c .before .before .before .before .before .before .before .before .before .before .args .desk) (c .before .before .before .before .before .before .before .before .before .before .args .kept .now) (sym (c .before .before .before .before .before .before .before .is-in-order .ensures) ∙ not-false _ (c .before .before .before .before .before .before .if1 .left))
+tell-requires c κs =
+    let right = c .before .before .before .before .before .before in
+    let asked = right .before in
+    let start = asked .before .before .before in
+    ordered (start .args .desk) (start .args .kept .now) (sym (asked .is-in-order .ensures) ∙ not-false _ (right .if1 .left))
 
 same-length : tie.Need-same-length
 same-length c = search needs
 
 returns-4 : tie.Need-returns-4
-returns-4 c = (rw (sym (c .before .before .before .before .before .before .before .before .before .before .is-in-order .ensures) ∙ not-false _ (c .before .before .before .before .before .before .before .before .before .if1 .left), c .before .before .before .before .before .before .before .before .if2 .left, ne-eqb _ 0 (c .before .before .before .before .before .before .if3 .left), le-ltb 65535 _ (c .before .before .before .before .if4 .taken)) (c .before .before .tell .ensures .1), c .before .before .tell .ensures .2)
+returns-4 c =
+    let told = c .before .before in
+    let numbered = told .before .before in
+    let begun = numbered .before .before in
+    let reading = begun .before .before in
+    let ordered = reading .before in
+    let right = sym (ordered .before .is-in-order .ensures) ∙ not-false _ (ordered .if1 .left) in
+    let written = told .tell .ensures .1 .0 in
+    (rw (right, reading .if2 .left, ne-eqb _ 0 (begun .if3 .left), le-ltb 65535 _ (numbered .if4 .taken)) written, told .tell .ensures .1 .1)
 
 write-stop-requires : tie.Need-write-stop-requires
 write-stop-requires c κs = search needs
@@ -41,7 +69,15 @@ same-length-2 : tie.Need-same-length-2
 same-length-2 c = search needs
 
 returns-5 : tie.Need-returns-5
-returns-5 c = (rw (sym (c .before .before .before .before .before .before .before .before .before .before .is-in-order .ensures) ∙ not-false _ (c .before .before .before .before .before .before .before .before .before .if1 .left), c .before .before .before .before .before .before .before .before .if2 .left, ne-eqb _ 0 (c .before .before .before .before .before .before .if3 .left), lt-ltb 65535 _ (c .before .before .before .before .if4 .left)) (c .before .before .write-stop .ensures .0), c .before .before .write-stop .ensures .1)
+returns-5 c =
+    let stopped = c .before .before in
+    let numbered = stopped .before .before in
+    let begun = numbered .before .before in
+    let reading = begun .before .before in
+    let ordered = reading .before in
+    let right = sym (ordered .before .is-in-order .ensures) ∙ not-false _ (ordered .if1 .left) in
+    let written = stopped .write-stop .ensures .0 in
+    (rw (right, reading .if2 .left, ne-eqb _ 0 (begun .if3 .left), lt-ltb 65535 _ (numbered .if4 .left)) written, stopped .write-stop .ensures .1)
 
 pub finish-spec : {M : Type 1} → statement M
 finish-spec =

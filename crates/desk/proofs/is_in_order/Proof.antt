@@ -5,10 +5,14 @@ use Rattle.desk.proofs.is_in_order.Statement.{statement}
 use Rattle.desk.proofs.is_in_order.Tie as tie
 
 returns : tie.Need-returns
-returns c = sym (rw (le-leb (c .before .before .args .desk .begun) 65 (c .if1 .taken)))
+returns c =
+    let start = c .before .before in
+    sym (rw (le-leb (start .args .desk .begun) 65 (c .if1 .taken)))
 
 returns-2 : tie.Need-returns-2
-returns-2 c = sym (rw (lt-leb (c .before .before .args .desk .begun) 65 (c .if1 .left)))
+returns-2 c =
+    let start = c .before .before in
+    sym (rw (lt-leb (start .args .desk .begun) 65 (c .if1 .left)))
 
 pub is-in-order-spec : {M : Type 1} → statement M
 is-in-order-spec = tie.close (tie.spec returns returns-2)

@@ -11,7 +11,10 @@ use Rattle.desk.proofs.step.Statement.{statement}
 use Rattle.desk.proofs.step.Tie as tie
 
 returns : tie.Need-returns
-returns c = let is = when-over (c .before .before .before .args .desk) (c .before .before .before .args .kept .now) (c .before .before .before .args .b) (c .if1 .taken) in (is .0, is .1, writes-as (is .2) (writes-none (c .before .before .before .args .out .now) (c .before .before .before .args .at)), omega arith)
+returns c =
+    let start = c .before .before .before in
+    let is = when-over (start .args .desk) (start .args .kept .now) (start .args .b) (c .if1 .taken) in
+    (is .0, (is .1, (writes-as (is .2) (writes-none (start .args .out .now) (start .args .at)), omega arith)))
 
 write-stop-requires : tie.Need-write-stop-requires
 write-stop-requires c κs = search needs
@@ -23,10 +26,21 @@ same-length : tie.Need-same-length
 same-length c = search needs
 
 returns-2 : tie.Need-returns-2
-returns-2 c = let is = at-the-stop (c .before .before .before .before .before .before .before .before .before .before .args .desk) (c .before .before .before .before .before .before .before .before .before .before .args .kept .now) (c .before .before .before .before .before .before .before .before .before .before .args .b) (c .before .before .before .before .before .before .before .if1 .left) (c .before .before .before .before .before .if2 .taken) in (c .closed .ensures ∙ is .0, is .1, writes-as (is .2) (all-written (stop (c .before .before .before .before .before .before .before .before .before .before .args .desk .line)) (c .before .before .before .before .before .before .before .before .before .before .pre .2) (c .before .before .before .write-stop .ensures .0)), c .before .before .before .write-stop .ensures .1)
+returns-2 c =
+    let stopped = c .before .before .before in
+    let numbered = stopped .before .before in
+    let reading = numbered .before .before in
+    let start = reading .before .before .before in
+    let desk = start .args .desk in
+    let is = at-the-stop desk (start .args .kept .now) (start .args .b) (reading .if1 .left) (numbered .if2 .taken) in
+    let written = writes-as (is .2) (all-written (stop (desk .line)) (start .pre .2) (stopped .write-stop .ensures .0)) in
+    (c .closed .ensures ∙ is .0, (is .1, (written, stopped .write-stop .ensures .1)))
 
 answer-requires : tie.Need-answer-requires
-answer-requires c κs = (c .before .before .before .before .before .before .before .before .pre .0, c .before .before .before .before .before .before .before .before .pre .1, c .before .before .before .if2 .left)
+answer-requires c κs =
+    let numbered = c .before .before .before in
+    let start = numbered .before .before .before .before .before in
+    (start .pre .0, start .pre .1, numbered .if2 .left)
 
 same-length-2 : tie.Need-same-length-2
 same-length-2 c = search needs
@@ -35,7 +49,18 @@ same-length-3 : tie.Need-same-length-3
 same-length-3 c = search needs
 
 returns-3 : tie.Need-returns-3
-returns-3 c = let is = at-a-newline (c .before .before .before .before .before .before .before .before .before .before .before .args .desk) (c .before .before .before .before .before .before .before .before .before .before .before .args .kept .now) (c .before .before .before .before .before .before .before .before .before .before .before .args .b) (c .before .before .before .before .before .before .before .before .if1 .left) (c .before .before .before .before .before .before .if2 .left) (c .before .before .before .before .before .if3 .taken) in (c .before .before .answer .ensures .0 ∙ is .0, is .1, writes-as (is .2) (all-written (text (c .before .before .before .before .before .before .before .before .before .before .before .args .desk .line) (reply (c .before .before .before .before .before .before .before .before .before .before .before .args .desk .clerk) (begun-line (c .before .before .before .before .before .before .before .before .before .before .before .args .desk) (c .before .before .before .before .before .before .before .before .before .before .before .args .kept .now)))) (c .before .before .before .before .before .before .before .before .before .before .before .pre .2) (c .before .before .answer .ensures .1)), c .before .before .answer .ensures .2)
+returns-3 c =
+    let answered = c .before .before in
+    let newline = answered .before .before .before in
+    let numbered = newline .before in
+    let reading = numbered .before .before in
+    let start = reading .before .before .before in
+    let desk = start .args .desk in
+    let kept = start .args .kept .now in
+    let is = at-a-newline desk kept (start .args .b) (reading .if1 .left) (numbered .if2 .left) (newline .if3 .taken) in
+    let due = text (desk .line) (reply (desk .clerk) (begun-line desk kept)) in
+    let written = writes-as (is .2) (all-written due (start .pre .2) (answered .answer .ensures .1 .0)) in
+    (answered .answer .ensures .0 ∙ is .0, (is .1, (written, answered .answer .ensures .1 .1)))
 
 keep-requires : tie.Need-keep-requires
 keep-requires c κs = search needs
@@ -44,7 +69,15 @@ same-length-4 : tie.Need-same-length-4
 same-length-4 c = search needs
 
 returns-4 : tie.Need-returns-4
-returns-4 c = let is = at-a-byte (c .before .before .before .before .before .before .before .before .before .before .args .desk) (c .before .before .before .before .before .before .before .before .before .before .args .kept .now) (c .before .before .before .before .before .before .before .before .before .before .args .b) (c .before .before .before .before .before .before .before .if1 .left) (c .before .before .before .before .before .if2 .left) (c .before .before .before .before .if3 .left) in (c .before .before .keep .ensures .0 ∙ is .0, c .before .before .keep .ensures .1 ∙ is .1, writes-as (is .2) (writes-none (c .before .before .before .before .before .before .before .before .before .before .args .out .now) (c .before .before .before .before .before .before .before .before .before .before .args .at)), omega arith)
+returns-4 c =
+    let kept = c .before .before in
+    let newline = kept .before .before in
+    let numbered = newline .before in
+    let reading = numbered .before .before in
+    let start = reading .before .before .before in
+    let is = at-a-byte (start .args .desk) (start .args .kept .now) (start .args .b) (reading .if1 .left) (numbered .if2 .left) (newline .if3 .left) in
+    let none = writes-as (is .2) (writes-none (start .args .out .now) (start .args .at)) in
+    (kept .keep .ensures .0 ∙ is .0, (kept .keep .ensures .1 ∙ is .1, (none, omega arith)))
 
 pub step-spec : {M : Type 1} → statement M
 step-spec =

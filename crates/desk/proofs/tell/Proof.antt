@@ -9,7 +9,9 @@ use Rattle.clerk.specs.Clerk.{Said}
 use Rattle.replies.specs.Text.{text, Writes, if-room}
 
 slice-aggregate-handle : tie.Need-slice-aggregate-handle
-slice-aggregate-handle c = sym (length-take-le (c .before .before .before .args .desk .begun) (c .before .before .before .args .kept .now) (let least = c .before .before .before .pre .0 in let most = c .before .before .before .pre .1 in omega arith))
+slice-aggregate-handle c =
+    let start = c .before .before .before in
+    sym (length-take-le (start .args .desk .begun) (start .args .kept .now) (let least = start .pre .0 in let most = start .pre .1 in omega arith))
 
 handle-requires : tie.Need-handle-requires
 handle-requires c κs = search needs
@@ -21,7 +23,17 @@ same-length : tie.Need-same-length
 same-length c = search needs
 
 returns : tie.Need-returns
-returns c = (c .before .before .before .before .handle .ensures .0, subst (λ (s : Said). Writes (c .before .before .before .before .before .before .before .before .args .out .now) (c .before .before .before .before .before .before .before .before .args .at) (if-room (c .before .before .before .before .before .before .before .before .args .out .now) (c .before .before .before .before .before .before .before .before .args .at) (text (c .before .before .before .before .before .before .before .before .args .desk .line) s)) (c .before .before .write-reply .last .0) (c .before .before .write-reply .result)) (c .before .before .before .before .handle .ensures .1) (c .before .before .write-reply .ensures .0), c .before .before .write-reply .ensures .1)
+returns c =
+    let wrote = c .before .before in
+    let handled = wrote .before .before in
+    let start = handled .before .before .before .before in
+    let out = start .args .out .now in
+    let at = start .args .at in
+    let written = subst
+    (λ (s : Said). Writes out at (if-room out at (text (start .args .desk .line) s)) (wrote .write-reply .last .0) (wrote .write-reply .result))
+    (handled .handle .ensures .1)
+    (wrote .write-reply .ensures .0) in
+    (handled .handle .ensures .0, (written, wrote .write-reply .ensures .1))
 
 pub tell-spec : {M : Type 1} → statement M
 tell-spec =

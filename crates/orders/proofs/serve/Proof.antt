@@ -68,7 +68,7 @@ returns c =
     let start = looped .before .before .before .before in
     let at = looped .loop in
     ap (λ k. in-order k (fed .feed .last .1 .0)) (c .closed .ensures)
-    ∙ stays-in-order (at .d) (at .kept) (at .inv .0) 0 (length (at .out)) (at .from) (start .args .chunk .now) (fed .feed .ensures .0)
+    ∙ stays-in-order (fed .feed .ensures .0) (at .inv .0)
 
 loop-less : tie.Need-loop-less Inv-loop μ-loop
 loop-less c =
@@ -80,7 +80,7 @@ loop-less c =
     let same = at .inv .2 in
     let all = start .pre .1 in
     let l = fed .before .before .before .loop-test .taken in
-    let more = goes-on (at .d) (at .kept) (at .inv .0) 0 (length (at .out)) (at .from) (start .args .chunk .now) (fed .feed .ensures .0) (omega arith) l in
+    let more = goes-on (fed .feed .ensures .0) (at .inv .0) (omega arith) l in
     omega arith
 
 loop-again : tie.Need-loop-again Inv-loop μ-loop
@@ -90,7 +90,7 @@ loop-again c =
     let looped = fed .before .before .before .before in
     let start = looped .before .before .before .before in
     let at = looped .loop in (
-      stays-in-order (at .d) (at .kept) (at .inv .0) 0 (length (at .out)) (at .from) (start .args .chunk .now) (fed .feed .ensures .0),
+      stays-in-order (fed .feed .ensures .0) (at .inv .0),
       fed .feed .kept .1 .0 ∙ at .inv .1,
       fed .feed .kept .1 .1 .1 .1 .0 ∙ at .inv .2,
     )
