@@ -1,1 +1,1 @@
-pub mod Into
+pub mod PartWithNumber

@@ -1,18 +1,18 @@
 -- What a descent asks and returns, and each step of it: of a number, document 01's "A lookup goes down into the one part that holds it and skips
--- the others by their areas." It returns a word, in which the code holds a square and a count of blocks below 256.
+-- the others by their areas." It returns one number, into which are packed a square and a count of blocks below 256.
 use mathlib.Core.Path.{_≡_}
 use Prim.Native.Nat.{ℕ, suc, _+_, _*_, _/_, _%_, _<_}
 use Rattle.division.specs.Division.{Square, Block, square-of, blocks-holding}
 use Rattle.division.specs.Division.Inside.{Inside}
 use Rattle.descents.specs.declared.Held.{Held}
 
-abbrev pub square-word : Square → ℕ → ℕ
-square-word s blocks = (s .x * 65536 + s .y) * 256 + blocks
+abbrev pub square-packed : Square → ℕ → ℕ
+square-packed s blocks = (s .x * 65536 + s .y) * 256 + blocks
 
-abbrev pub held-in : (word : ℕ) → Held
-held-in word = record { x = word / 16777216 % 65536; y = word / 256 % 65536; blocks = word % 256 }
+abbrev pub square-unpacked : (packed : ℕ) → Held
+square-unpacked packed = record { x = packed / 16777216 % 65536; y = packed / 256 % 65536; blocks = packed % 256 }
 
--- A square with a count of blocks, as the code has them outside of the word.
+-- A square with a count of blocks, as the code has them when they are taken out.
 abbrev pub held : Square → ℕ → Held
 held s blocks = record { x = s .x; y = s .y; blocks = blocks }
 
@@ -30,5 +30,5 @@ pub record Descends (k : Block) (i above : ℕ) : Type 0 where
   pub below : i < k .a * k .b
   pub count : above + blocks-holding k (square-of k i) < 256
 
-abbrev pub descent-word : Block → (i above : ℕ) → ℕ
-descent-word k i above = square-word (square-of k i) (above + blocks-holding k (square-of k i))
+abbrev pub descent-packed : Block → (i above : ℕ) → ℕ
+descent-packed k i above = square-packed (square-of k i) (above + blocks-holding k (square-of k i))

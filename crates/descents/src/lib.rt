@@ -8,7 +8,7 @@ ghost use Rattle.division.specs.declared.Choice.the-variants.{LongCut, UCut};
 ghost use Rattle.division.specs.Division.{square, moved, whole, choice, square-of, blocks-holding};
 ghost use Rattle.division.specs.Division.Inside.{Inside};
 ghost use Rattle.division.specs.Forms.{block, block-at, Steps};
-ghost use Rattle.descents.specs.Descents.{square-word, held, held-in, Enters, Descends, descent-word};
+ghost use Rattle.descents.specs.Descents.{square-packed, held, square-unpacked, Enters, Descends, descent-packed};
 
 // A square, and how many blocks of the division hold it.
 pub struct Held {
@@ -17,22 +17,22 @@ pub struct Held {
     pub blocks: u32,
 }
 
-// Both in one word, since a number that a descent returns costs it no copy; and out of the word again.
-fn square_word(along: u32, across: u32, turned: bool, blocks: u32) -> u64
-    ensures { λ r. ⌜ r ≡ square-word (cond turned (square across along) (square along across)) blocks ⌝ }
+// Both packed into one number, which a descent returns without a copy, and taken out again.
+fn pack_square(along: u32, across: u32, turned: bool, blocks: u32) -> u64
+    ensures { λ r. ⌜ r ≡ square-packed (cond turned (square across along) (square along across)) blocks ⌝ }
 {
     let x = division::either(turned, across, along);
     let y = division::either(turned, along, across);
     (x as u64 * 65536 + y as u64) * 256 + blocks as u64
 }
 
-fn held_in(word: u64) -> Held
-    ensures { λ r. ⌜ r ≡ held-in word ⌝ }
+fn unpack_square(packed: u64) -> Held
+    ensures { λ r. ⌜ r ≡ square-unpacked packed ⌝ }
 {
     Held {
-        x: (word / 16777216 % 65536) as u32,
-        y: (word / 256 % 65536) as u32,
-        blocks: (word % 256) as u32,
+        x: (packed / 16777216 % 65536) as u32,
+        y: (packed / 256 % 65536) as u32,
+        blocks: (packed % 256) as u32,
     }
 }
 
@@ -83,11 +83,11 @@ fn u_with(k: Placed, i: u32) -> Below
 }
 
 // The square of a straight block's number i, along its run or along its side, and how many blocks hold it.
-fn run_word(k: Placed, i: u32, blocks: u32) -> u64
+fn pack_run(k: Placed, i: u32, blocks: u32) -> u64
     requires { ⌜ Steps (k .along) i (k .back) ⌝ }
-    ensures { λ r. ⌜ r ≡ square-word (moved (block k .run) i (block k .start)) blocks ⌝ }
+    ensures { λ r. ⌜ r ≡ square-packed (moved (block k .run) i (block k .start)) blocks ⌝ }
 {
-    square_word(
+    pack_square(
         division::stepped(k.along, i, k.back),
         k.across,
         k.turned,
@@ -95,11 +95,11 @@ fn run_word(k: Placed, i: u32, blocks: u32) -> u64
     )
 }
 
-fn side_word(k: Placed, i: u32, blocks: u32) -> u64
+fn pack_side(k: Placed, i: u32, blocks: u32) -> u64
     requires { ⌜ Steps (k .across) i (k .back) ⌝ }
-    ensures { λ r. ⌜ r ≡ square-word (moved (block k .side) i (block k .start)) blocks ⌝ }
+    ensures { λ r. ⌜ r ≡ square-packed (moved (block k .side) i (block k .start)) blocks ⌝ }
 {
-    square_word(
+    pack_square(
         k.along,
         division::stepped(k.across, i, k.back),
         k.turned,
@@ -120,7 +120,7 @@ fn descend(
     above: u32,
 ) -> u64
     requires { ⌜ Descends (block-at along across turned back a b) i above ⌝ }
-    ensures { λ r. ⌜ r ≡ descent-word (block-at along across turned back a b) i above ⌝ }
+    ensures { λ r. ⌜ r ≡ descent-packed (block-at along across turned back a b) i above ⌝ }
 {
     let k = Placed {
         along,
@@ -132,8 +132,8 @@ fn descend(
     };
     let case = division::choose(a, b);
     match case {
-        Choice::StraightRun => run_word(k, i, above + 1),
-        Choice::StraightSide => side_word(k, i, above + 1),
+        Choice::StraightRun => pack_run(k, i, above + 1),
+        Choice::StraightSide => pack_side(k, i, above + 1),
         Choice::LongCut => {
             let t = long_with(k, i);
             let q = t.part;
@@ -170,6 +170,6 @@ pub fn square_at(w: u32, h: u32, number: u32) -> Held
     requires { ⌜ Descends (whole w h) number 0 ⌝ }
     ensures { λ r. ⌜ r ≡ held (square-of (whole w h) number) (blocks-holding (whole w h) (square-of (whole w h) number)) ⌝ }
 {
-    let word = descend(0, 0, false, false, w, h, number, 0);
-    held_in(word)
+    let packed = descend(0, 0, false, false, w, h, number, 0);
+    unpack_square(packed)
 }

@@ -1,1 +1,1 @@
-pub mod Toward
+pub mod PartWithSquare

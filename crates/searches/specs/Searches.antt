@@ -1,18 +1,18 @@
 -- What a search asks and returns, and each step of it: of a square, document 01's "A lookup goes down into the one part that holds it and skips
--- the others by their areas." It returns a word, in which the code holds a number and a count of blocks below 256.
+-- the others by their areas." It returns one number, into which are packed a number and a count of blocks below 256.
 use mathlib.Core.Path.{_≡_}
 use Prim.Native.Nat.{ℕ, suc, _+_, _*_, _/_, _%_, _≤_, _<_}
 use Rattle.division.specs.declared.Spot.{Spot}
 use Rattle.searches.specs.declared.Numbered.{Numbered}
 use Rattle.division.specs.Division.{square, whole, number-of, blocks-holding}
 
-abbrev pub number-word : ℕ → ℕ → ℕ
-number-word number blocks = number * 256 + blocks
+abbrev pub number-packed : ℕ → ℕ → ℕ
+number-packed number blocks = number * 256 + blocks
 
-abbrev pub numbered-in : (word : ℕ) → Numbered
-numbered-in word = record { number = word / 256 % 4294967296; blocks = word % 256 }
+abbrev pub number-unpacked : (packed : ℕ) → Numbered
+number-unpacked packed = record { number = packed / 256 % 4294967296; blocks = packed % 256 }
 
--- A number with a count of blocks, as the code has them outside of the word.
+-- A number with a count of blocks, as the code has them when they are taken out.
 abbrev pub numbered : (number blocks : ℕ) → Numbered
 numbered number blocks = record { number = number; blocks = blocks }
 
@@ -47,5 +47,5 @@ pub record Searches (s : Spot) (before above : ℕ) : Type 0 where
   pub lying : Lying s before
   pub count : above + spot-blocks s < 256
 
-abbrev pub search-word : Spot → (before above : ℕ) → ℕ
-search-word s before above = number-word (before + spot-number s) (above + spot-blocks s)
+abbrev pub search-packed : Spot → (before above : ℕ) → ℕ
+search-packed s before above = number-packed (before + spot-number s) (above + spot-blocks s)

@@ -4,7 +4,7 @@ use division::Spot;
 ghost use mathlib.Core.Path.{_≡_};
 ghost use Rattle.division.specs.declared.Choice.the-variants.{LongCut, UCut};
 ghost use Rattle.division.specs.Division.{square, whole, choice, number-of, blocks-holding};
-ghost use Rattle.searches.specs.Searches.{number-word, numbered, numbered-in, spot-at, Lying, Leads, Searches, search-word};
+ghost use Rattle.searches.specs.Searches.{number-packed, numbered, number-unpacked, spot-at, Lying, Leads, Searches, search-packed};
 
 // A square's number, and how many blocks of the division hold the square.
 pub struct Numbered {
@@ -12,19 +12,19 @@ pub struct Numbered {
     pub blocks: u32,
 }
 
-// Both in one word, as a descent has it, and out of the word again.
-fn number_word(number: u32, blocks: u32) -> u64
-    ensures { λ r. ⌜ r ≡ number-word number blocks ⌝ }
+// Both packed into one number, as in a descent, and taken out again.
+fn pack_number(number: u32, blocks: u32) -> u64
+    ensures { λ r. ⌜ r ≡ number-packed number blocks ⌝ }
 {
     number as u64 * 256 + blocks as u64
 }
 
-fn numbered_in(word: u64) -> Numbered
-    ensures { λ r. ⌜ r ≡ numbered-in word ⌝ }
+fn unpack_number(packed: u64) -> Numbered
+    ensures { λ r. ⌜ r ≡ number-unpacked packed ⌝ }
 {
     Numbered {
-        number: (word / 256 % 4294967296) as u32,
-        blocks: (word % 256) as u32,
+        number: (packed / 256 % 4294967296) as u32,
+        blocks: (packed % 256) as u32,
     }
 }
 
@@ -78,13 +78,13 @@ fn u_at(s: Spot, before: u32) -> Below
 // the part is the last act, so that it compiles to a loop.
 fn search(a: u32, b: u32, u: u32, v: u32, before: u32, above: u32) -> u64
     requires { ⌜ Searches (spot-at a b u v) before above ⌝ }
-    ensures { λ r. ⌜ r ≡ search-word (spot-at a b u v) before above ⌝ }
+    ensures { λ r. ⌜ r ≡ search-packed (spot-at a b u v) before above ⌝ }
 {
     let s = Spot { a, b, u, v };
     let case = division::choose(a, b);
     match case {
-        Choice::StraightRun => number_word(before + u, above + 1),
-        Choice::StraightSide => number_word(before + v, above + 1),
+        Choice::StraightRun => pack_number(before + u, above + 1),
+        Choice::StraightSide => pack_number(before + v, above + 1),
         Choice::LongCut => {
             let t = long_at(s, before);
             let q = t.spot;
@@ -103,6 +103,6 @@ pub fn number_at(w: u32, h: u32, x: u32, y: u32) -> Numbered
     requires { ⌜ Searches (spot-at w h x y) 0 0 ⌝ }
     ensures { λ r. ⌜ r ≡ numbered (number-of (whole w h) (square x y)) (blocks-holding (whole w h) (square x y)) ⌝ }
 {
-    let word = search(w, h, x, y, 0, 0);
-    numbered_in(word)
+    let packed = search(w, h, x, y, 0, 0);
+    unpack_number(packed)
 }

@@ -1,18 +1,18 @@
--- `descents::descend` meets its contract, by the laws of `Into`: a straight block is answered, a cut one is what its part's call says.
+-- `descents::descend` meets its contract, by the laws of `PartWithNumber`: a straight block is answered, a cut one is what its part's call says.
 -- The measure is the block's area, which falls.
 use mathlib.Core.Path.{sym, subst, _∙_}
 use Prim.Native.Nat.{ℕ, _*_, _<_}
 use native.Mathlib.Omega.{arith}
 use Rattle.division.proofs.Walks.{a-limit, b-limit}
-use Rattle.descents.proofs.Into.{run-steps, run-count, run-word, side-steps, side-count, side-word, next-descent, next-count, next-word}
+use Rattle.descents.proofs.PartWithNumber.{run-steps, run-count, run-packed, side-steps, side-count, side-packed, next-descent, next-count, next-packed}
 use borrow.Fn.Kinds.{In}
 use borrow.Fn.PlainCycle.{Measures, is, falls, and}
 use Rattle.descents.proofs.descend.Reads as descend
 use Rattle.descents.proofs.descend.Kinds as descend-kinds
 use Rattle.descents.proofs.+descend.Lts-descend as descend-lts
 use Rattle.descents.proofs.long_with.Reads as long-with-reads
-use Rattle.descents.proofs.run_word.Reads as run-word-reads
-use Rattle.descents.proofs.side_word.Reads as side-word-reads
+use Rattle.descents.proofs.pack_run.Reads as pack-run-reads
+use Rattle.descents.proofs.pack_side.Reads as pack-side-reads
 use Rattle.descents.proofs.u_with.Reads as u-with-reads
 use Rattle.division.proofs.choose.Reads as choose-reads
 use Rattle.descents.proofs.+descend.{statement}
@@ -32,10 +32,10 @@ abbrev descend-calls : ℕ → descend-lts.Claims
 descend-calls t = (
   choose-reads.Asked,
   choose-reads.Learnt,
-  run-word-reads.Asked,
-  run-word-reads.Learnt,
-  side-word-reads.Asked,
-  side-word-reads.Learnt,
+  pack-run-reads.Asked,
+  pack-run-reads.Learnt,
+  pack-side-reads.Asked,
+  pack-side-reads.Learnt,
   long-with-reads.Asked,
   long-with-reads.Learnt,
   descend-below t,
@@ -50,14 +50,14 @@ descend-choose-requires t c κs = (a-limit _ (c .pre .1 .inside), b-limit _ (c .
 descend-enum-told : (t : ℕ) → descend-lts.Need-enum-told (descend-calls t) (descend-at t) descend.Post
 descend-enum-told t c = c .match .keys1
 
-descend-add-run-word : (t : ℕ) → descend-lts.Need-add-run-word (descend-calls t) (descend-at t) descend.Post
-descend-add-run-word t c =
+descend-add-pack-run : (t : ℕ) → descend-lts.Need-add-pack-run (descend-calls t) (descend-at t) descend.Post
+descend-add-pack-run t c =
     let start = c .before .before .before in
     let more = run-count (start .pre .1) (sym (c .before .before .choose .ensures) ∙ c .enum-told .given .1) in
     omega arith
 
-descend-run-word-requires : (t : ℕ) → descend-lts.Need-run-word-requires (descend-calls t) (descend-at t) descend.Post
-descend-run-word-requires t c κs =
+descend-pack-run-requires : (t : ℕ) → descend-lts.Need-pack-run-requires (descend-calls t) (descend-at t) descend.Post
+descend-pack-run-requires t c κs =
     let start = c .before .before .before in
     let at = start .args in
     run-steps (at .along) (at .across) (at .turned) (at .back) (start .pre .1) (sym (c .before .before .choose .ensures) ∙ c .enum-told .given .1)
@@ -65,14 +65,14 @@ descend-run-word-requires t c κs =
 descend-enum-told-2 : (t : ℕ) → descend-lts.Need-enum-told-2 (descend-calls t) (descend-at t) descend.Post
 descend-enum-told-2 t c = c .match .keys2
 
-descend-add-side-word : (t : ℕ) → descend-lts.Need-add-side-word (descend-calls t) (descend-at t) descend.Post
-descend-add-side-word t c =
+descend-add-pack-side : (t : ℕ) → descend-lts.Need-add-pack-side (descend-calls t) (descend-at t) descend.Post
+descend-add-pack-side t c =
     let start = c .before .before .before in
     let more = side-count (start .pre .1) (sym (c .before .before .choose .ensures) ∙ c .enum-told2 .given .1) in
     omega arith
 
-descend-side-word-requires : (t : ℕ) → descend-lts.Need-side-word-requires (descend-calls t) (descend-at t) descend.Post
-descend-side-word-requires t c κs =
+descend-pack-side-requires : (t : ℕ) → descend-lts.Need-pack-side-requires (descend-calls t) (descend-at t) descend.Post
+descend-pack-side-requires t c κs =
     let start = c .before .before .before in
     let at = start .args in
     side-steps (at .along) (at .across) (at .turned) (at .back) (start .pre .1) (sym (c .before .before .choose .ensures) ∙ c .enum-told2 .given .1)
@@ -124,22 +124,22 @@ descend-descend-requires-2 t c κs =
 descend-returns : (t : ℕ) → descend-lts.Need-returns (descend-calls t) (descend-at t) descend.Post
 descend-returns t c =
     let start = c .before .before .before .before in
-    c .run-word .ensures ∙ run-word (start .pre .1) (sym (c .before .before .before .choose .ensures) ∙ c .before .enum-told .given .1)
+    c .pack-run .ensures ∙ run-packed (start .pre .1) (sym (c .before .before .before .choose .ensures) ∙ c .before .enum-told .given .1)
 
 descend-returns-2 : (t : ℕ) → descend-lts.Need-returns-2 (descend-calls t) (descend-at t) descend.Post
 descend-returns-2 t c =
     let start = c .before .before .before .before in
-    c .side-word .ensures ∙ side-word (start .pre .1) (sym (c .before .before .before .choose .ensures) ∙ c .before .enum-told2 .given .1)
+    c .pack-side .ensures ∙ side-packed (start .pre .1) (sym (c .before .before .before .choose .ensures) ∙ c .before .enum-told2 .given .1)
 
 descend-returns-3 : (t : ℕ) → descend-lts.Need-returns-3 (descend-calls t) (descend-at t) descend.Post
 descend-returns-3 t c =
     let start = c .before .before .before .before .before .before in
-    c .descend .ensures ∙ next-word (start .pre .1) (c .before .before .long-with .ensures)
+    c .descend .ensures ∙ next-packed (start .pre .1) (c .before .before .long-with .ensures)
 
 descend-returns-4 : (t : ℕ) → descend-lts.Need-returns-4 (descend-calls t) (descend-at t) descend.Post
 descend-returns-4 t c =
     let start = c .before .before .before .before .before .before in
-    c .descend2 .ensures ∙ next-word (start .pre .1) (c .before .before .u-with .ensures)
+    c .descend2 .ensures ∙ next-packed (start .pre .1) (c .before .before .u-with .ensures)
 
 pub +descend-spec : {M : Type 1} → statement M
 +descend-spec = close μ-descend λ t. descend-lts.spec (descend-calls t)
@@ -147,11 +147,11 @@ pub +descend-spec : {M : Type 1} → statement M
     descend.Post
     (descend-choose-requires t)
     (descend-enum-told t)
-    (descend-add-run-word t)
-    (descend-run-word-requires t)
+    (descend-add-pack-run t)
+    (descend-pack-run-requires t)
     (descend-enum-told-2 t)
-    (descend-add-side-word t)
-    (descend-side-word-requires t)
+    (descend-add-pack-side t)
+    (descend-pack-side-requires t)
     (descend-enum-told-3 t)
     (descend-long-with-requires t)
     (descend-add-descend t)

@@ -6,7 +6,7 @@ use native.Mathlib.Omega.{arith}
 use Rattle.division.specs.Division.{Block, B, C, part}
 use Rattle.division.specs.Forms.{block}
 use Rattle.descents.specs.Descents.{Enters}
-use Rattle.descents.proofs.Into.{block-sums, a-enters, b-enters, c-enters}
+use Rattle.descents.proofs.PartWithNumber.{block-sums, a-enters, b-enters, c-enters}
 use Rattle.descents.proofs.u_with.Statement.{statement}
 use Rattle.descents.proofs.u_with.Tie as tie
 

@@ -1,16 +1,16 @@
--- `searches::search` meets its contract, by the laws of `Toward`: a straight block is answered, a cut one is what its part's call says.
+-- `searches::search` meets its contract, by the laws of `PartWithSquare`: a straight block is answered, a cut one is what its part's call says.
 -- The measure is the block's area, which falls.
 use mathlib.Core.Path.{sym, subst, _∙_}
 use Prim.Native.Nat.{ℕ, _*_, _<_}
 use native.Mathlib.Omega.{arith}
-use Rattle.searches.proofs.Toward.{along-fits, across-fits, run-count, run-word, side-count, side-word, next-search, next-word}
+use Rattle.searches.proofs.PartWithSquare.{along-fits, across-fits, run-count, run-packed, side-count, side-packed, next-search, next-packed}
 use borrow.Fn.Kinds.{In}
 use borrow.Fn.PlainCycle.{Measures, is, falls, and}
 use Rattle.searches.proofs.search.Reads as search′
 use Rattle.searches.proofs.search.Kinds as search-kinds
 use Rattle.searches.proofs.+search.Lts-search as search-lts
 use Rattle.searches.proofs.long_at.Reads as long-at-reads
-use Rattle.searches.proofs.number_word.Reads as number-word-reads
+use Rattle.searches.proofs.pack_number.Reads as pack-number-reads
 use Rattle.searches.proofs.u_at.Reads as u-at-reads
 use Rattle.division.proofs.choose.Reads as choose-reads
 use Rattle.searches.proofs.+search.{statement}
@@ -27,7 +27,7 @@ search-below t = and 0 search-kinds.ps (falls 0 search-kinds.ps _<_ μ-search t)
 
 -- what is asked and learnt at each call of `search`
 abbrev search-calls : ℕ → search-lts.Claims
-search-calls t = (choose-reads.Asked, choose-reads.Learnt, number-word-reads.Asked, number-word-reads.Learnt, long-at-reads.Asked, long-at-reads.Learnt, search-below t, search′.Post, u-at-reads.Asked, u-at-reads.Learnt)
+search-calls t = (choose-reads.Asked, choose-reads.Learnt, pack-number-reads.Asked, pack-number-reads.Learnt, long-at-reads.Asked, long-at-reads.Learnt, search-below t, search′.Post, u-at-reads.Asked, u-at-reads.Learnt)
 
 search-choose-requires : (t : ℕ) → search-lts.Need-choose-requires (search-calls t) (search-at t) search′.Post
 search-choose-requires t c κs = (c .pre .1 .lying .a-limit, c .pre .1 .lying .b-limit)
@@ -35,26 +35,26 @@ search-choose-requires t c κs = (c .pre .1 .lying .a-limit, c .pre .1 .lying .b
 search-enum-told : (t : ℕ) → search-lts.Need-enum-told (search-calls t) (search-at t) search′.Post
 search-enum-told t c = c .match .keys1
 
-search-add-number-word : (t : ℕ) → search-lts.Need-add-number-word (search-calls t) (search-at t) search′.Post
-search-add-number-word t c = record { fits = along-fits (c .before .before .before .pre .1) }
+search-add-pack-number : (t : ℕ) → search-lts.Need-add-pack-number (search-calls t) (search-at t) search′.Post
+search-add-pack-number t c = record { fits = along-fits (c .before .before .before .pre .1) }
 
-search-add-number-word-2 : (t : ℕ) → search-lts.Need-add-number-word-2 (search-calls t) (search-at t) search′.Post
-search-add-number-word-2 t c = let l = run-count (c .before .before .before .pre .1) (sym (c .before .before .choose .ensures) ∙ c .enum-told .given .1) in omega arith
+search-add-pack-number-2 : (t : ℕ) → search-lts.Need-add-pack-number-2 (search-calls t) (search-at t) search′.Post
+search-add-pack-number-2 t c = let l = run-count (c .before .before .before .pre .1) (sym (c .before .before .choose .ensures) ∙ c .enum-told .given .1) in omega arith
 
-search-number-word-requires : (t : ℕ) → search-lts.Need-number-word-requires (search-calls t) (search-at t) search′.Post
-search-number-word-requires t c κs = tt
+search-pack-number-requires : (t : ℕ) → search-lts.Need-pack-number-requires (search-calls t) (search-at t) search′.Post
+search-pack-number-requires t c κs = tt
 
 search-enum-told-2 : (t : ℕ) → search-lts.Need-enum-told-2 (search-calls t) (search-at t) search′.Post
 search-enum-told-2 t c = c .match .keys2
 
-search-add-number-word-3 : (t : ℕ) → search-lts.Need-add-number-word-3 (search-calls t) (search-at t) search′.Post
-search-add-number-word-3 t c = record { fits = across-fits (c .before .before .before .pre .1) }
+search-add-pack-number-3 : (t : ℕ) → search-lts.Need-add-pack-number-3 (search-calls t) (search-at t) search′.Post
+search-add-pack-number-3 t c = record { fits = across-fits (c .before .before .before .pre .1) }
 
-search-add-number-word-4 : (t : ℕ) → search-lts.Need-add-number-word-4 (search-calls t) (search-at t) search′.Post
-search-add-number-word-4 t c = let l = side-count (c .before .before .before .pre .1) (sym (c .before .before .choose .ensures) ∙ c .enum-told2 .given .1) in omega arith
+search-add-pack-number-4 : (t : ℕ) → search-lts.Need-add-pack-number-4 (search-calls t) (search-at t) search′.Post
+search-add-pack-number-4 t c = let l = side-count (c .before .before .before .pre .1) (sym (c .before .before .choose .ensures) ∙ c .enum-told2 .given .1) in omega arith
 
-search-number-word-requires-2 : (t : ℕ) → search-lts.Need-number-word-requires-2 (search-calls t) (search-at t) search′.Post
-search-number-word-requires-2 t c κs = tt
+search-pack-number-requires-2 : (t : ℕ) → search-lts.Need-pack-number-requires-2 (search-calls t) (search-at t) search′.Post
+search-pack-number-requires-2 t c κs = tt
 
 search-enum-told-3 : (t : ℕ) → search-lts.Need-enum-told-3 (search-calls t) (search-at t) search′.Post
 search-enum-told-3 t c = c .match .keys3
@@ -87,16 +87,16 @@ search-search-requires-2 t c κs = (
 )
 
 search-returns : (t : ℕ) → search-lts.Need-returns (search-calls t) (search-at t) search′.Post
-search-returns t c = c .number-word .ensures ∙ run-word (c .before .before .before .before .pre .1) (sym (c .before .before .before .choose .ensures) ∙ c .before .enum-told .given .1)
+search-returns t c = c .pack-number .ensures ∙ run-packed (c .before .before .before .before .pre .1) (sym (c .before .before .before .choose .ensures) ∙ c .before .enum-told .given .1)
 
 search-returns-2 : (t : ℕ) → search-lts.Need-returns-2 (search-calls t) (search-at t) search′.Post
-search-returns-2 t c = c .number-word2 .ensures ∙ side-word (c .before .before .before .before .pre .1) (sym (c .before .before .before .choose .ensures) ∙ c .before .enum-told2 .given .1)
+search-returns-2 t c = c .pack-number2 .ensures ∙ side-packed (c .before .before .before .before .pre .1) (sym (c .before .before .before .choose .ensures) ∙ c .before .enum-told2 .given .1)
 
 search-returns-3 : (t : ℕ) → search-lts.Need-returns-3 (search-calls t) (search-at t) search′.Post
-search-returns-3 t c = c .search .ensures ∙ next-word (c .before .before .before .before .before .before .pre .1) (c .before .before .long-at .ensures)
+search-returns-3 t c = c .search .ensures ∙ next-packed (c .before .before .before .before .before .before .pre .1) (c .before .before .long-at .ensures)
 
 search-returns-4 : (t : ℕ) → search-lts.Need-returns-4 (search-calls t) (search-at t) search′.Post
-search-returns-4 t c = c .search2 .ensures ∙ next-word (c .before .before .before .before .before .before .pre .1) (c .before .before .u-at .ensures)
+search-returns-4 t c = c .search2 .ensures ∙ next-packed (c .before .before .before .before .before .before .pre .1) (c .before .before .u-at .ensures)
 
 pub +search-spec : {M : Type 1} → statement M
 +search-spec = close μ-search λ t. search-lts.spec (search-calls t)
@@ -104,13 +104,13 @@ pub +search-spec : {M : Type 1} → statement M
     search′.Post
     (search-choose-requires t)
     (search-enum-told t)
-    (search-add-number-word t)
-    (search-add-number-word-2 t)
-    (search-number-word-requires t)
+    (search-add-pack-number t)
+    (search-add-pack-number-2 t)
+    (search-pack-number-requires t)
     (search-enum-told-2 t)
-    (search-add-number-word-3 t)
-    (search-add-number-word-4 t)
-    (search-number-word-requires-2 t)
+    (search-add-pack-number-3 t)
+    (search-add-pack-number-4 t)
+    (search-pack-number-requires-2 t)
     (search-enum-told-3 t)
     (search-long-at-requires t)
     (search-add-search t)

@@ -8,7 +8,7 @@ use lib.Dec.{ltb}
 use Rattle.division.specs.declared.Spot.{Spot}
 use Rattle.division.specs.Division.{even-half, First, Second}
 use Rattle.division.specs.Forms.{entered}
-use Rattle.searches.proofs.Toward.{long-two, long-leads}
+use Rattle.searches.proofs.PartWithSquare.{long-two, long-leads}
 use Rattle.searches.proofs.long_at.Statement.{statement}
 use Rattle.searches.proofs.long_at.Tie as tie
 

@@ -3,7 +3,7 @@ use borrow.Author.Needs.{needs}
 use Prim.Native.Nat.{ℕ}
 use mathlib.Core.Path.{subst}
 use Prim.Native.Nat.{_≤_}
-use Rattle.searches.proofs.Toward.{u-two, spot-sums, a-leads, b-leads, c-leads}
+use Rattle.searches.proofs.PartWithSquare.{u-two, spot-sums, a-leads, b-leads, c-leads}
 use Rattle.searches.proofs.u_at.Statement.{statement}
 use Rattle.searches.proofs.u_at.Tie as tie
 

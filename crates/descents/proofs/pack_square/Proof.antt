@@ -1,17 +1,17 @@
--- `descents::square_word` meets its contract: the choice of x and y by the bit is the choice of the square.
+-- `descents::pack_square` meets its contract: the choice of x and y by the bit is the choice of the square.
 use borrow.Author.Needs.{needs}
 use mathlib.Core.Bool.{Bool, true, false, cond}
 use mathlib.Core.Path.{_≡_, refl, ap₂, _∙_}
 use Prim.Native.Nat.{ℕ, _+_, _*_}
 use Rattle.division.specs.Division.{square}
-use Rattle.descents.specs.Descents.{square-word}
-use Rattle.descents.proofs.square_word.Statement.{statement}
-use Rattle.descents.proofs.square_word.Tie as tie
+use Rattle.descents.specs.Descents.{square-packed}
+use Rattle.descents.proofs.pack_square.Statement.{statement}
+use Rattle.descents.proofs.pack_square.Tie as tie
 
-word-by : (along across blocks : ℕ) (turned : Bool)
-    → (cond turned across along * 65536 + cond turned along across) * 256 + blocks ≡ square-word (cond turned (square across along) (square along across)) blocks
-word-by along across blocks true = refl
-word-by along across blocks false = refl
+packed-by : (along across blocks : ℕ) (turned : Bool)
+    → (cond turned across along * 65536 + cond turned along across) * 256 + blocks ≡ square-packed (cond turned (square across along) (square along across)) blocks
+packed-by along across blocks true = refl
+packed-by along across blocks false = refl
 
 either-requires : tie.Need-either-requires
 either-requires c κs = search needs
@@ -41,10 +41,10 @@ returns : tie.Need-returns
 returns c =
     let start = c .before .before .args in
     ap₂ (λ x y. (x * 65536 + y) * 256 + start .blocks) (c .before .either .ensures) (c .either2 .ensures)
-    ∙ word-by (start .along) (start .across) (start .blocks) (start .turned)
+    ∙ packed-by (start .along) (start .across) (start .blocks) (start .turned)
 
-pub square-word-spec : {M : Type 1} → statement M
-square-word-spec =
+pub pack-square-spec : {M : Type 1} → statement M
+pack-square-spec =
     tie.close
     (tie.spec
     either-requires

@@ -20,7 +20,7 @@ use Rattle.division.proofs.Once.{square-held}
 use Rattle.division.proofs.Local.{whole-within}
 use Rattle.division.proofs.Descent.{part-inside, square-in, holding-in, straight-holding, run-square, side-square}
 use Rattle.division.proofs.Walks.{a-limit, b-limit, product-limit, u-sum, Sums-fit, sums-fit, run-moved, side-moved, steps-along, steps-across}
-use Rattle.descents.specs.Descents.{square-word, held-in, held, Enters, Descends, descent-word}
+use Rattle.descents.specs.Descents.{square-packed, square-unpacked, held, Enters, Descends, descent-packed}
 
 enters : (k : Block) → Inside 65535 65535 k → (before : List Block) (q : Block) (after : List Block) → parts k ≡ before ++ (q ∷ after)
     → (i j : ℕ) → total area before + j ≡ i → j < area q → Enters k i q j
@@ -82,18 +82,18 @@ module _ (k : Block) (i : ℕ) (inside : Inside 65535 65535 k) (l : i < area k) 
 
 -- a straight block's squares, as the two bits give them
 pub run-stepped : (k : Placed) (i there blocks : ℕ) → there ≡ stepped-to (k .along) i (k .back)
-    → square-word (cond (k .turned) (square (k .across) there) (square there (k .across))) blocks ≡ square-word (moved (block k .run) i (block k .start)) blocks
+    → square-packed (cond (k .turned) (square (k .across) there) (square there (k .across))) blocks ≡ square-packed (moved (block k .run) i (block k .start)) blocks
 run-stepped k i there blocks e =
-    ap (λ (s : Square). square-word s blocks)
+    ap (λ (s : Square). square-packed s blocks)
     (ap (λ n. cond (k .turned) (square (k .across) n) (square n (k .across))) e ∙ run-moved (k .along) (k .across) (k .turned) (k .back) i)
 
 pub side-stepped : (k : Placed) (i there blocks : ℕ) → there ≡ stepped-to (k .across) i (k .back)
-    → square-word (cond (k .turned) (square there (k .along)) (square (k .along) there)) blocks ≡ square-word (moved (block k .side) i (block k .start)) blocks
+    → square-packed (cond (k .turned) (square there (k .along)) (square (k .along) there)) blocks ≡ square-packed (moved (block k .side) i (block k .start)) blocks
 side-stepped k i there blocks e =
-    ap (λ (s : Square). square-word s blocks)
+    ap (λ (s : Square). square-packed s blocks)
     (ap (λ n. cond (k .turned) (square n (k .along)) (square (k .along) n)) e ∙ side-moved (k .along) (k .across) (k .turned) (k .back) i)
 
--- a descent's word in a straight block, and from a part's to its block's
+-- a descent's result in a straight block, and from a part's to its block's
 module _ {k : Block} {i above : ℕ} (r : Descends k i above) where
   alone : parts k ≡ [] → blocks-holding k (square-of k i) ≡ 1
   alone e = straight-holding k (square-of k i) (r .inside .sized) e (square-held 65535 65535 k (r .inside) i (r .below))
@@ -109,9 +109,9 @@ module _ {k : Block} {i above : ℕ} (r : Descends k i above) where
     pub run-count : above + 1 < 256
     run-count = let n = run-alone in let l = r .count in omega arith
 
-    pub run-word : square-word (moved (k .run) i (k .start)) (above + 1) ≡ descent-word k i above
-    run-word =
-        ap₂ square-word (sym (run-square k (rule k StraightRun (r .inside .sized) c .0) i run-below)) (ap (λ n. above + n) (sym run-alone))
+    pub run-packed : square-packed (moved (k .run) i (k .start)) (above + 1) ≡ descent-packed k i above
+    run-packed =
+        ap₂ square-packed (sym (run-square k (rule k StraightRun (r .inside .sized) c .0) i run-below)) (ap (λ n. above + n) (sym run-alone))
 
   module _ (c : choice (k .a) (k .b) ≡ StraightSide) where
     pub side-below : i < k .b
@@ -124,9 +124,9 @@ module _ {k : Block} {i above : ℕ} (r : Descends k i above) where
     pub side-count : above + 1 < 256
     side-count = let n = side-alone in let l = r .count in omega arith
 
-    pub side-word : square-word (moved (k .side) i (k .start)) (above + 1) ≡ descent-word k i above
-    side-word =
-        ap₂ square-word (sym (side-square k (rule k StraightSide (r .inside .sized) c .0) i side-below)) (ap (λ n. above + n) (sym side-alone))
+    pub side-packed : square-packed (moved (k .side) i (k .start)) (above + 1) ≡ descent-packed k i above
+    side-packed =
+        ap₂ square-packed (sym (side-square k (rule k StraightSide (r .inside .sized) c .0) i side-below)) (ap (λ n. above + n) (sym side-alone))
 
 -- so that the steps along a straight block stay within the limit
 module _ (along across : ℕ) (turned back : Bool) {a b i above : ℕ} (r : Descends (block-at along across turned back a b) i above) where
@@ -149,27 +149,27 @@ module _ {k : Block} {i above : ℕ} (r : Descends k i above) {q : Block} {j : �
   pub next-count : above + 1 < 256
   next-count = let m = r .count in let n = l .holding in omega arith
 
-  pub next-word : descent-word q j (above + 1) ≡ descent-word k i above
-  next-word = ap₂ square-word (l .square) blocks-there
+  pub next-packed : descent-packed q j (above + 1) ≡ descent-packed k i above
+  next-packed = ap₂ square-packed (l .square) blocks-there
 
--- what is packed into a word is what is taken out of it
-pub taken-out : (s : Square) (blocks : ℕ) → s .x < 65536 → s .y < 65536 → blocks < 256 → held-in (square-word s blocks) ≡ held s blocks
+-- what was packed is what is taken out again
+pub taken-out : (s : Square) (blocks : ℕ) → s .x < 65536 → s .y < 65536 → blocks < 256 → square-unpacked (square-packed s blocks) ≡ held s blocks
 taken-out s blocks x y few =
-    let x-is : square-word s blocks / 16777216 % 65536 ≡ s .x = omega arith in
-    let y-is : square-word s blocks / 256 % 65536 ≡ s .y = omega arith in
-    let blocks-is : square-word s blocks % 256 ≡ blocks = omega arith in
+    let x-is : square-packed s blocks / 16777216 % 65536 ≡ s .x = omega arith in
+    let y-is : square-packed s blocks / 256 % 65536 ≡ s .y = omega arith in
+    let blocks-is : square-packed s blocks % 256 ≡ blocks = omega arith in
     λ i. record { x = x-is i; y = y-is i; blocks = blocks-is i }
 
--- a descent from the whole area: its square is within the limit, and the word holds it
+-- a descent from the whole area: its square is within the limit, and is what is taken out
 module _ (w h number : ℕ) (r : Descends (whole w h) number 0) where
   pub from-whole : Descends (block-at 0 0 false false w h) number 0
   unfolding whole
   from-whole = r
 
-  pub word-holds : (word : ℕ) → word ≡ descent-word (block-at 0 0 false false w h) number 0
-      → held-in word ≡ held (square-of (whole w h) number) (blocks-holding (whole w h) (square-of (whole w h) number))
+  pub unpacked-is : (packed : ℕ) → packed ≡ descent-packed (block-at 0 0 false false w h) number 0
+      → square-unpacked packed ≡ held (square-of (whole w h) number) (blocks-holding (whole w h) (square-of (whole w h) number))
   unfolding whole
-  word-holds word e =
+  unpacked-is packed e =
       let s = square-of (whole w h) number in
       let there = whole-within w h s (square-held 65535 65535 (whole w h) (r .inside) number (r .below)) in
       let right = there .run in
@@ -178,4 +178,4 @@ module _ (w h number : ℕ) (r : Descends (whole w h) number 0) where
       let high = b-limit (whole w h) (r .inside) in
       let few = r .count in
       let all : 0 + blocks-holding (whole w h) s ≡ blocks-holding (whole w h) s = omega arith in
-      ap held-in e ∙ taken-out s (0 + blocks-holding (whole w h) s) (omega arith) (omega arith) (omega arith) ∙ ap (held s) all
+      ap square-unpacked e ∙ taken-out s (0 + blocks-holding (whole w h) s) (omega arith) (omega arith) (omega arith) ∙ ap (held s) all

@@ -16,7 +16,7 @@ use Rattle.division.proofs.Blocks.{whole-inside}
 use Rattle.division.proofs.Once.{number-below}
 use Rattle.division.proofs.Local.{Within, whole-holds, inner, Lies, in-first, in-second, in-a, in-b, in-c, squares-of, lies-smaller, lies-inside, lies-fits, area-run, area-side, area-cut}
 use Rattle.division.proofs.Walks.{a-limit, b-limit, Sums-fit, sums-fit}
-use Rattle.searches.specs.Searches.{number-word, numbered-in, numbered, spot-number, spot-blocks, Lying, Leads, Searches, search-word}
+use Rattle.searches.specs.Searches.{number-packed, number-unpacked, numbered, spot-number, spot-blocks, Lying, Leads, Searches, search-packed}
 
 sized-of : (s : Spot) {before : ℕ} → Lying s before → Sized (whole (s .a) (s .b))
 unfolding whole
@@ -101,7 +101,7 @@ module _ (s : Spot) (before : ℕ) (r : Lying s before) (c : choice (s .a) (s .b
       subst⁻¹ (λ (t : Spot). Leads s before t (before + e * (s .a / 2) + s .a * (s .b - e))) is
       (leads s before r (u-two s before r c .1) (in-c (s .a) (s .b) (square (s .u) (s .v)) c m (r .along) (subst (λ (n : ℕ). s .v < n) half l)) (before + e * (s .a / 2) + s .a * (s .b - e)) (rw half (omega arith)))
 
--- a search's word in a straight block, and from a part's to its block's
+-- a search's result in a straight block, and from a part's to its block's
 module _ {s : Spot} {before above : ℕ} (r : Searches s before above) where
   lies-in : Within (s .a) (s .b) (square (s .u) (s .v))
   lies-in = record { run = r .lying .along; side = r .lying .across }
@@ -131,8 +131,8 @@ module _ {s : Spot} {before above : ℕ} (r : Searches s before above) where
     pub run-count : above + 1 < 256
     run-count = let n = run-answers .1 in let l = r .count in omega arith
 
-    pub run-word : number-word (before + s .u) (above + 1) ≡ search-word s before above
-    run-word = let n = run-answers .0 in let m = run-answers .1 in omega arith
+    pub run-packed : number-packed (before + s .u) (above + 1) ≡ search-packed s before above
+    run-packed = let n = run-answers .0 in let m = run-answers .1 in omega arith
 
   module _ (c : choice (s .a) (s .b) ≡ StraightSide) where
     side-answers : (spot-number s ≡ s .v) × (spot-blocks s ≡ 1)
@@ -143,27 +143,27 @@ module _ {s : Spot} {before above : ℕ} (r : Searches s before above) where
     pub side-count : above + 1 < 256
     side-count = let n = side-answers .1 in let l = r .count in omega arith
 
-    pub side-word : number-word (before + s .v) (above + 1) ≡ search-word s before above
-    side-word = let n = side-answers .0 in let m = side-answers .1 in omega arith
+    pub side-packed : number-packed (before + s .v) (above + 1) ≡ search-packed s before above
+    side-packed = let n = side-answers .0 in let m = side-answers .1 in omega arith
 
   module _ {t : Spot} {on : ℕ} (l : Leads s before t on) where
     pub next-search : Searches t on (above + 1)
     next-search = record { lying = l .lying; count = let n = l .holding in let m = r .count in omega arith }
 
-    pub next-word : search-word t on (above + 1) ≡ search-word s before above
-    next-word = let n = l .holding in let m = l .number in omega arith
+    pub next-packed : search-packed t on (above + 1) ≡ search-packed s before above
+    next-packed = let n = l .holding in let m = l .number in omega arith
 
--- what is packed into a word is what is taken out of it
-pub taken-out : (number blocks : ℕ) → number < 4294967296 → blocks < 256 → numbered-in (number-word number blocks) ≡ numbered number blocks
+-- what was packed is what is taken out again
+pub taken-out : (number blocks : ℕ) → number < 4294967296 → blocks < 256 → number-unpacked (number-packed number blocks) ≡ numbered number blocks
 taken-out number blocks l few =
-    let number-is : number-word number blocks / 256 % 4294967296 ≡ number = omega arith in
-    let blocks-is : number-word number blocks % 256 ≡ blocks = omega arith in
+    let number-is : number-packed number blocks / 256 % 4294967296 ≡ number = omega arith in
+    let blocks-is : number-packed number blocks % 256 ≡ blocks = omega arith in
     λ i. record { number = number-is i; blocks = blocks-is i }
 
--- a search in the whole area: its number is one of 32 bits, and the word holds it
-pub word-holds : (s : Spot) → Searches s 0 0 → (word : ℕ) → word ≡ search-word s 0 0 → numbered-in word ≡ numbered (spot-number s) (spot-blocks s)
+-- a search in the whole area: its number is one of 32 bits, and is what is taken out
+pub unpacked-is : (s : Spot) → Searches s 0 0 → (packed : ℕ) → packed ≡ search-packed s 0 0 → number-unpacked packed ≡ numbered (spot-number s) (spot-blocks s)
 unfolding whole
-word-holds s r word e =
+unpacked-is s r packed e =
     let k = whole (s .a) (s .b) in
     let there = whole-holds (s .a) (s .b) (square (s .u) (s .v)) (lies-in r) in
     let sides = sized-of s (r .lying) in
@@ -172,4 +172,4 @@ word-holds s r word e =
     let few = r .count in
     let number : 0 + spot-number s ≡ spot-number s = omega arith in
     let blocks : 0 + spot-blocks s ≡ spot-blocks s = omega arith in
-    ap numbered-in e ∙ taken-out (0 + spot-number s) (0 + spot-blocks s) (omega arith) (omega arith) ∙ ap₂ numbered number blocks
+    ap number-unpacked e ∙ taken-out (0 + spot-number s) (0 + spot-blocks s) (omega arith) (omega arith) ∙ ap₂ numbered number blocks
