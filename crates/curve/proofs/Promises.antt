@@ -92,7 +92,8 @@ square-back w h x y n k e =
     let is = sym e ∙ square-answered w h (was .0) x y (was .1) (was .2) in
     let held = whole-holds w h (square x y) (record { run = was .1; side = was .2 }) in
     let inside = whole-inside w h (all .w-least) (all .h-least) in
-    let there : square-of (whole w h) n ≡ square x y = ap (square-of (whole w h)) (ap (value 0) is) ∙ square-of-number w h (whole w h) inside (square x y) held in
+    let there : square-of (whole w h) n ≡ square x y = ap (square-of (whole w h)) (ap (value 0) is)
+    ∙ square-of-number w h (whole w h) inside (square x y) held in
     number-answered w h (was .0) n (subst⁻¹ (λ (m : ℕ). m < w * h) (ap (value 0) is) (number-below w h (whole w h) inside (square x y) held))
     ∙ ap (λ (s : Square). answered (s .x ∷ s .y ∷ blocks-holding (whole w h) s ∷ [])) there
     ∙ ap (λ b. answered (x ∷ y ∷ b ∷ [])) (sym (ap (value 1) is))

@@ -9,7 +9,8 @@ use borrow.Author.Tests.{leb-true, leb-false}
 use lib.Dec.{leb}
 use Rattle.division.specs.declared.Choice.the-variants.{StraightRun, StraightSide, LongCut, UCut}
 use Rattle.division.specs.declared.Placed.{Placed}
-use Rattle.division.specs.Division.{Square, square, moved, Block, whole, choice, even-half, First, Second, A, B, C, part, parts, parts-of, square-of, blocks-holding}
+use Rattle.division.specs.Division.{Square, square, moved, Block, whole, choice, even-half, First, Second, A, B, C, part, parts, parts-of, square-of}
+use Rattle.division.specs.Division.{blocks-holding}
 use Rattle.division.specs.Division.Inside.{Inside}
 use Rattle.division.proofs.Rules.{All, Smaller, smaller, parts-are, halves}
 use Rattle.division.specs.Forms.{block, block-at, stepped-to, Steps}
@@ -34,11 +35,13 @@ enters k inside before q after e i j sum below =
       falls = let thirds = less .two-thirds in omega arith;
       below = below;
       square = sym same;
-      holding = subst⁻¹ (λ (p : Square). _≡_ {A = ℕ} (blocks-holding k p) (suc (blocks-holding q p))) same (holding-in 65535 65535 k inside before q after e (square-of q j) held);
+      holding = subst⁻¹ (λ (p : Square). _≡_ {A = ℕ} (blocks-holding k p) (suc (blocks-holding q p))) same
+          (holding-in 65535 65535 k inside before q after e (square-of q j) held);
     }
 
 -- the first part of a long cut has the numbers below the even half of a times b, the second the rest
-pub long-enters : (k : Block) (i : ℕ) → Inside 65535 65535 k → i < area k → choice (k .a) (k .b) ≡ LongCut → (second : Bool) → leb (even-half (k .a) * k .b) i ≡ second
+pub long-enters :
+    (k : Block) (i : ℕ) → Inside 65535 65535 k → i < area k → choice (k .a) (k .b) ≡ LongCut → (second : Bool) → leb (even-half (k .a) * k .b) i ≡ second
     → Enters k i (part (cond second Second First) k) (i - cond second (even-half (k .a)) 0 * k .b)
 unfolding parts-of part
 long-enters k i inside l e true t =
@@ -69,26 +72,31 @@ module _ (k : Block) (i : ℕ) (inside : Inside 65535 65535 k) (l : i < area k) 
   unfolding parts-of part
   a-enters m = enters k inside [] (part A k) (part B k ∷ part C k ∷ []) (parts-are k UCut c) i i (omega arith) m
 
-  pub b-enters : even-half (k .b) * (k .a / 2) ≤ i → i < even-half (k .b) * (k .a / 2) + k .a * (k .b - even-half (k .b)) → Enters k i (part B k) (i - even-half (k .b) * (k .a / 2))
+  pub b-enters : even-half (k .b) * (k .a / 2) ≤ i → i < even-half (k .b) * (k .a / 2) + k .a * (k .b - even-half (k .b)) →
+      Enters k i (part B k) (i - even-half (k .b) * (k .a / 2))
   unfolding parts-of part
   b-enters m n =
       enters k inside (part A k ∷ []) (part B k) (part C k ∷ []) (parts-are k UCut c) i (i - even-half (k .b) * (k .a / 2)) (omega arith) (omega arith)
 
-  pub c-enters : even-half (k .b) * (k .a / 2) + k .a * (k .b - even-half (k .b)) ≤ i → Enters k i (part C k) (i - (even-half (k .b) * (k .a / 2) + k .a * (k .b - even-half (k .b))))
+  pub c-enters : even-half (k .b) * (k .a / 2) + k .a * (k .b - even-half (k .b)) ≤ i →
+      Enters k i (part C k) (i - (even-half (k .b) * (k .a / 2) + k .a * (k .b - even-half (k .b))))
   unfolding parts-of part
   c-enters m =
       let sum = u-sum (k .a) (k .b) (even-half (k .b)) (u-lengths k (inside .sized) c .1) refl in
-      enters k inside (part A k ∷ part B k ∷ []) (part C k) [] (parts-are k UCut c) i (i - (even-half (k .b) * (k .a / 2) + k .a * (k .b - even-half (k .b)))) (omega arith) (omega arith)
+      enters k inside (part A k ∷ part B k ∷ []) (part C k) [] (parts-are k UCut c) i (i - (even-half (k .b) * (k .a / 2) + k .a * (k .b - even-half (k .b))))
+      (omega arith) (omega arith)
 
 -- a straight block's squares, as the two bits give them
 pub run-stepped : (k : Placed) (i there blocks : ℕ) → there ≡ stepped-to (k .along) i (k .back)
-    → square-packed (cond (k .turned) (square (k .across) there) (square there (k .across))) blocks ≡ square-packed (moved (block k .run) i (block k .start)) blocks
+    → square-packed (cond (k .turned) (square (k .across) there) (square there (k .across))) blocks ≡ square-packed (moved (block k .run) i (block k .start))
+    blocks
 run-stepped k i there blocks e =
     ap (λ (s : Square). square-packed s blocks)
     (ap (λ n. cond (k .turned) (square (k .across) n) (square n (k .across))) e ∙ run-moved (k .along) (k .across) (k .turned) (k .back) i)
 
 pub side-stepped : (k : Placed) (i there blocks : ℕ) → there ≡ stepped-to (k .across) i (k .back)
-    → square-packed (cond (k .turned) (square there (k .along)) (square (k .along) there)) blocks ≡ square-packed (moved (block k .side) i (block k .start)) blocks
+    → square-packed (cond (k .turned) (square there (k .along)) (square (k .along) there)) blocks ≡ square-packed (moved (block k .side) i (block k .start))
+    blocks
 side-stepped k i there blocks e =
     ap (λ (s : Square). square-packed s blocks)
     (ap (λ n. cond (k .turned) (square n (k .along)) (square (k .along) n)) e ∙ side-moved (k .along) (k .across) (k .turned) (k .back) i)

@@ -14,7 +14,8 @@ use Rattle.division.specs.Forms.{entered}
 use Rattle.division.proofs.Cases.{long-lengths, u-lengths, run-length, side-length}
 use Rattle.division.proofs.Blocks.{whole-inside}
 use Rattle.division.proofs.Once.{number-below}
-use Rattle.division.proofs.Local.{Within, whole-holds, inner, Lies, in-first, in-second, in-a, in-b, in-c, squares-of, lies-smaller, lies-inside, lies-fits, area-run, area-side, area-cut}
+use Rattle.division.proofs.Local.{Within, whole-holds, inner, Lies, in-first, in-second, in-a, in-b, in-c, squares-of, lies-smaller, lies-inside, lies-fits}
+use Rattle.division.proofs.Local.{area-run, area-side, area-cut}
 use Rattle.division.proofs.Walks.{a-limit, b-limit, Sums-fit, sums-fit}
 use Rattle.searches.specs.Searches.{number-packed, number-unpacked, numbered, spot-number, spot-blocks, Lying, Leads, Searches, search-packed}
 
@@ -24,7 +25,8 @@ sized-of s r = record { run = let l = r .along in omega arith; side = let l = r 
 
 module _ (s : Spot) (before : ℕ) (r : Lying s before) (two : 2 ≤ s .b) where
   leads : (lies : Lies (s .a) (s .b) (square (s .u) (s .v))) (on : ℕ) → on ≡ before + squares-of (s .a) (s .b) (lies .before)
-      → Leads s before (record { a = part (lies .name) (whole (s .a) (s .b)) .a; b = part (lies .name) (whole (s .a) (s .b)) .b; u = lies .there .x; v = lies .there .y }) on
+      → Leads s before (record
+      { a = part (lies .name) (whole (s .a) (s .b)) .a; b = part (lies .name) (whole (s .a) (s .b)) .b; u = lies .there .x; v = lies .there .y }) on
   unfolding whole
   leads lies on is =
       let here = square (s .u) (s .v) in
@@ -33,7 +35,8 @@ module _ (s : Spot) (before : ℕ) (r : Lying s before) (two : 2 ≤ s .b) where
       let a-least : 1 ≤ s .a = let l = r .along in omega arith in
       let b-least : 1 ≤ s .b = omega arith in
       let small = whole-inside (s .a) (s .b) a-least b-least in
-      let large : Inside 65535 65535 k = record { sized = small .sized; paired = x-y; run = let l = r .a-limit in omega arith; side = let l = r .b-limit in omega arith } in
+      let large : Inside 65535 65535 k =
+      record { sized = small .sized; paired = x-y; run = let l = r .a-limit in omega arith; side = let l = r .b-limit in omega arith } in
       let q-inside = lies-inside 65535 65535 k large two here lies in
       let less = lies-smaller k (small .sized) here lies .two-thirds in
       let fits = lies-fits (s .a) (s .b) k small two here lies in
@@ -60,7 +63,8 @@ unfolding whole
 long-two s before r c = long-lengths (whole (s .a) (s .b)) (sized-of s r) c
 
 module _ (s : Spot) (before : ℕ) (r : Lying s before) (e : choice (s .a) (s .b) ≡ LongCut) where
-  long-leads-by : (first : Bool) → ltb (s .u) (even-half (s .a)) ≡ first → Leads s before (entered (cond first First Second) s) (before + (s .u - entered (cond first First Second) s .u) * s .b)
+  long-leads-by : (first : Bool) → ltb (s .u) (even-half (s .a)) ≡ first →
+      Leads s before (entered (cond first First Second) s) (before + (s .u - entered (cond first First Second) s .u) * s .b)
   unfolding squares-of part parts-of inner whole
   long-leads-by true t =
       leads s before r (long-two s before r e .1) (in-first (s .a) (s .b) (square (s .u) (s .v)) e (ltb-true (s .u) (even-half (s .a)) t) (r .across))
@@ -93,13 +97,15 @@ module _ (s : Spot) (before : ℕ) (r : Lying s before) (c : choice (s .a) (s .b
   unfolding squares-of part parts-of inner whole
   b-leads is l =
       subst⁻¹ (λ (t : Spot). Leads s before t (before + e * (s .a / 2))) is
-      (leads s before r (u-two s before r c .1) (in-b (s .a) (s .b) (square (s .u) (s .v)) c (r .along) (subst (λ (n : ℕ). n ≤ s .v) half l) (r .across)) (before + e * (s .a / 2)) (rw half (omega arith)))
+      (leads s before r (u-two s before r c .1) (in-b (s .a) (s .b) (square (s .u) (s .v)) c (r .along) (subst (λ (n : ℕ). n ≤ s .v) half l) (r .across))
+      (before + e * (s .a / 2)) (rw half (omega arith)))
 
   pub c-leads : t ≡ entered C s → s .v < e → s .a / 2 ≤ s .u → Leads s before t (before + e * (s .a / 2) + s .a * (s .b - e))
   unfolding squares-of part parts-of inner whole
   c-leads is l m =
       subst⁻¹ (λ (t : Spot). Leads s before t (before + e * (s .a / 2) + s .a * (s .b - e))) is
-      (leads s before r (u-two s before r c .1) (in-c (s .a) (s .b) (square (s .u) (s .v)) c m (r .along) (subst (λ (n : ℕ). s .v < n) half l)) (before + e * (s .a / 2) + s .a * (s .b - e)) (rw half (omega arith)))
+      (leads s before r (u-two s before r c .1) (in-c (s .a) (s .b) (square (s .u) (s .v)) c m (r .along) (subst (λ (n : ℕ). s .v < n) half l))
+      (before + e * (s .a / 2) + s .a * (s .b - e)) (rw half (omega arith)))
 
 -- a search's result in a straight block, and from a part's to its block's
 module _ {s : Spot} {before above : ℕ} (r : Searches s before above) where
@@ -126,7 +132,8 @@ module _ {s : Spot} {before above : ℕ} (r : Searches s before above) where
     run-answers : (spot-number s ≡ s .u) × (spot-blocks s ≡ 1)
     unfolding whole
     run-answers =
-        area-run (s .a) (s .b) (sized-of s (r .lying) .run) (sized-of s (r .lying) .side) (square (s .u) (s .v)) lies-in c (run-length (whole (s .a) (s .b)) (sized-of s (r .lying)) c)
+        area-run (s .a) (s .b) (sized-of s (r .lying) .run) (sized-of s (r .lying) .side) (square (s .u) (s .v)) lies-in c
+        (run-length (whole (s .a) (s .b)) (sized-of s (r .lying)) c)
 
     pub run-count : above + 1 < 256
     run-count = let n = run-answers .1 in let l = r .count in omega arith
@@ -138,7 +145,8 @@ module _ {s : Spot} {before above : ℕ} (r : Searches s before above) where
     side-answers : (spot-number s ≡ s .v) × (spot-blocks s ≡ 1)
     unfolding whole
     side-answers =
-        area-side (s .a) (s .b) (sized-of s (r .lying) .run) (sized-of s (r .lying) .side) (square (s .u) (s .v)) lies-in c (side-length (whole (s .a) (s .b)) (sized-of s (r .lying)) c)
+        area-side (s .a) (s .b) (sized-of s (r .lying) .run) (sized-of s (r .lying) .side) (square (s .u) (s .v)) lies-in c
+        (side-length (whole (s .a) (s .b)) (sized-of s (r .lying)) c)
 
     pub side-count : above + 1 < 256
     side-count = let n = side-answers .1 in let l = r .count in omega arith

@@ -5,7 +5,8 @@ use mathlib.Core.List.{List, [], _∷_, _++_, map, append-assoc, append-nil}
 use mathlib.Core.Logic.{⊎-elim}
 use mathlib.Core.Path.{_≡_, refl, sym, ap, subst, subst⁻¹, _∙_}
 use Prim.Native.Nat.{ℕ, zero, suc, _+_, _*_, _/_, _%_, _≤_, _<_}
-use native.Mathlib.Nat.{add-zero, zero-add, suc-add, add-suc, le-of-suc-le-suc, eq-or-lt-of-le, mod-lt, mul-comm, div-add-mod', div-lt-iff-lt-mul, mul-add-mod-self-right, mod-eq-of-lt, mul-add-div-right, div-eq-of-lt}
+use native.Mathlib.Nat.{add-zero, zero-add, suc-add, add-suc, le-of-suc-le-suc, eq-or-lt-of-le, mod-lt, mul-comm, div-add-mod', div-lt-iff-lt-mul}
+use native.Mathlib.Nat.{mul-add-mod-self-right, mod-eq-of-lt, mul-add-div-right, div-eq-of-lt}
 use native.Mathlib.Numerals.{add-one}
 use native.Mathlib.Omega.{arith}
 use lib.ListN.{length, getD, take, set, length-append, length-map, length-set, List·getD-append}
@@ -103,7 +104,8 @@ module _ (w h : ℕ) (a : 1 ≤ w) (b : 1 ≤ h) where
       ap (λ q. square (q % w) (q / w)) (sym is) ∙ square-there w (square-of (whole w h) j) (ps-square j l .run) in
       sym (ap (number-of (whole w h)) there ∙ number-of-square w h (whole w h) (whole-inside w h a b) j l)
 
-  number-there : (p : ℕ) → p < w * h → (number-of (whole w h) (square (p % w) (p / w)) < w * h) × (getD (ps w h) (number-of (whole w h) (square (p % w) (p / w))) 0 ≡ p)
+  number-there : (p : ℕ) → p < w * h →
+      (number-of (whole w h) (square (p % w) (p / w)) < w * h) × (getD (ps w h) (number-of (whole w h) (square (p % w) (p / w))) 0 ≡ p)
   unfolding whole
   number-there p below =
       let s = square (p % w) (p / w) in
@@ -122,9 +124,11 @@ module _ (w h : ℕ) (a : 1 ≤ w) (b : 1 ≤ h) where
 
     pub due-there : (kind : Bool) → getD (due-by kind w h) (cond kind (getD (ps w h) j 0) n) 0 ≡ cond kind n (getD (ps w h) j 0)
     unfolding by-number by-square
-    due-there false = ap (λ m. getD (by-number w h) m 0) e ∙ place-holds (λ i. square-of (whole w h) i .y * w + square-of (whole w h) i .x) (w * h) j l ∙ sym (ps-at j l)
+    due-there false = ap (λ m. getD (by-number w h) m 0) e ∙ place-holds (λ i. square-of (whole w h) i .y * w + square-of (whole w h) i .x) (w * h) j l
+        ∙ sym (ps-at j l)
     due-there true =
-        place-holds (λ p. number-of (whole w h) (square (p % w) (p / w))) (w * h) (getD (ps w h) j 0) (ps-below j l) ∙ sym (only-number (getD (ps w h) j 0) j l refl) ∙ sym e
+        place-holds (λ p. number-of (whole w h) (square (p % w) (p / w))) (w * h) (getD (ps w h) j 0) (ps-below j l)
+        ∙ sym (only-number (getD (ps w h) j 0) j l refl) ∙ sym e
 
   -- the square that is looked at for a place
   pub looked-for : (kind : Bool) (i : ℕ) → ℕ

@@ -125,7 +125,8 @@ asked-by : (w h : ℕ) (t : List ℕ) (n : ℕ) (answer : Figures) (a b : Bool) 
 asked-by w h t n answer true true p q e = (p, eqb-true (length t) (w * h) q)
 asked-by w h t n answer true false p q e =
     absurd (omega (arith, ap (λ f. f .refusal) (length-refused w h t n answer p (eqb-false (length t) (w * h) q))))
-asked-by w h t n answer false b p q e = absurd (refusal-some (area-refusal w h) (ap (λ f. f .refusal) (area-refused w h t n answer p (area-refusal w h) refl) ∙ e))
+asked-by w h t n answer false b p q e =
+    absurd (refusal-some (area-refusal w h) (ap (λ f. f .refusal) (area-refused w h t n answer p (area-refusal w h) refl) ∙ e))
 
 module _ (w h : ℕ) (t : List ℕ) where
   -- "A table's length must be exactly w·h": of an accepted area any other is refusal 4, in fills and checks.
@@ -230,10 +231,12 @@ unfolding fill
 fills-nothing kind promise =
     not-seven kind
     (promise 1 1 (7 ∷ [])
-    ∙ sym (given (length (blocks (whole 1 1)) ∷ []) (due-by kind 1 1) (7 ∷ []) (taken 1 1 (7 ∷ []) 1 (answered (length (blocks (whole 1 1)) ∷ [])) one-square refl)))
+    ∙ sym (given (length (blocks (whole 1 1)) ∷ []) (due-by kind 1 1) (7 ∷ [])
+    (taken 1 1 (7 ∷ []) 1 (answered (length (blocks (whole 1 1)) ∷ [])) one-square refl)))
 
 -- one that finds every table right
-pub finds-all-right : (kind : Bool) → ((w h : ℕ) (t : List ℕ) → accepted w h ≡ true → length t ≡ w * h → check w h (due-by kind w h) t ≡ answered (0 ∷ 0 ∷ 0 ∷ [])) → ⊥
+pub finds-all-right :
+    (kind : Bool) → ((w h : ℕ) (t : List ℕ) → accepted w h ≡ true → length t ≡ w * h → check w h (due-by kind w h) t ≡ answered (0 ∷ 0 ∷ 0 ∷ [])) → ⊥
 finds-all-right kind promise = not-seven kind (right-then-filled 1 1 one-square kind (7 ∷ []) refl (promise 1 1 (7 ∷ []) one-square refl))
 
 -- one whose count is made up: a single square is one block, and a 2 by 2 area four
@@ -247,11 +250,13 @@ four-reported =
     taken 2 2 (0 ∷ 0 ∷ 0 ∷ 0 ∷ []) 1 (answered (length (blocks (whole 2 2)) ∷ [])) four-squares refl
     ∙ ap (λ n. answered (n ∷ [])) (sym (blocks-two (square 0 0) +x +y))
 
-pub made-up-count : (n : ℕ) → ((w h : ℕ) (t : List ℕ) → accepted w h ≡ true → length t ≡ w * h → fill-figures (FillAnswers.the-variants.Filled n) ≡ fill w h t) → ⊥
+pub made-up-count :
+    (n : ℕ) → ((w h : ℕ) (t : List ℕ) → accepted w h ≡ true → length t ≡ w * h → fill-figures (FillAnswers.the-variants.Filled n) ≡ fill w h t) → ⊥
 made-up-count n promise =
     let most = few-reported 1 1 (0 ∷ []) n (sym (promise 1 1 (0 ∷ []) one-square refl)) in
     omega (arith, ap (value 0) (promise 2 2 (0 ∷ 0 ∷ 0 ∷ 0 ∷ []) four-squares refl ∙ four-reported))
 
 -- and one that reports the bound itself: 7 against 4
-pub bound-reported : ((w h : ℕ) (t : List ℕ) → accepted w h ≡ true → length t ≡ w * h → fill-figures (FillAnswers.the-variants.Filled (2 * (w * h) - 1)) ≡ fill w h t) → ⊥
+pub bound-reported :
+    ((w h : ℕ) (t : List ℕ) → accepted w h ≡ true → length t ≡ w * h → fill-figures (FillAnswers.the-variants.Filled (2 * (w * h) - 1)) ≡ fill w h t) → ⊥
 bound-reported promise = omega (arith, ap (value 0) (promise 2 2 (0 ∷ 0 ∷ 0 ∷ 0 ∷ []) four-squares refl ∙ four-reported))

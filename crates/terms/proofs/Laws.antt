@@ -9,7 +9,8 @@ use lib.Dec.{leb, eqb}
 use lib.ListN.{length, getD, take, drop}
 use native.Mathlib.Omega.{arith}
 use Rattle.terms.specs.declared.Refusal.{Refusal}
-use Rattle.terms.specs.declared.Refusal.the-variants.{AreaLimit, SquareOutside, NumberOutside, TableLength, NotANumber, WrongShape, NoArea, LongLine, TooDeep}
+use Rattle.terms.specs.declared.Refusal.the-variants.{AreaLimit, SquareOutside, NumberOutside, TableLength, NotANumber, WrongShape, NoArea, LongLine}
+use Rattle.terms.specs.declared.Refusal.the-variants.{TooDeep}
 use Rattle.terms.specs.Terms.{length-accepted, accepted, refusal-number, Figures}
 
 -- what a call learns from the test of its area

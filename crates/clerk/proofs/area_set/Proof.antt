@@ -16,16 +16,34 @@ enum-known-x : tie.Need-enum-known-x
 enum-known-x c = search needs
 
 mul-t9 : tie.Need-mul-t9
-mul-t9 c = record { fits = found-fits (c .before .before .before .before .args .w) (c .before .before .before .before .args .h) (c .before .x .given .0 .0) (c .before .x .given .0 .1 .0) (ap finish-figures (sym (c .before .x .given .1)) ∙ c .before .before .before .finish-square .ensures) }
+mul-t9 c =
+    let x = c .before in
+    let finish-square = x .before .before in
+    let start = finish-square .before in
+    record {
+      fits = found-fits (start .args .w) (start .args .h) (x .x .given .0 .0) (x .x .given .0 .1 .0)
+          (ap finish-figures (sym (x .x .given .1)) ∙ finish-square .finish-square .ensures);
+    }
 
 enum-known-r : tie.Need-enum-known-r
 enum-known-r c = search needs
 
 returns : tie.Need-returns
-returns c = ap (told Area-set (c .before .before .before .before .args .w ∷ c .before .before .before .before .args .h ∷ (c .before .before .before .before .args .w * c .before .before .before .before .args .h) ∷ [])) (ap finish-figures (sym (c .before .x .given .1)) ∙ c .before .before .before .finish-square .ensures)
+returns c =
+    let finish-square = c .before .before .before in
+    let start = finish-square .before in
+    let w = start .args .w in
+    let h = start .args .h in
+    ap (told Area-set (w ∷ h ∷ (w * h) ∷ [])) (ap finish-figures (sym (c .before .x .given .1)) ∙ finish-square .finish-square .ensures)
 
 returns-2 : tie.Need-returns-2
-returns-2 c = told-refused Area-set (c .before .before .before .before .args .w ∷ c .before .before .before .before .args .h ∷ (c .before .before .before .before .args .w * c .before .before .before .before .args .h) ∷ []) (c .before .r .given .0 .0) 2 ∙ ap (told Area-set (c .before .before .before .before .args .w ∷ c .before .before .before .before .args .h ∷ (c .before .before .before .before .args .w * c .before .before .before .before .args .h) ∷ [])) (ap finish-figures (sym (c .before .r .given .1)) ∙ c .before .before .before .finish-square .ensures)
+returns-2 c =
+    let finish-square = c .before .before .before in
+    let start = finish-square .before in
+    let w = start .args .w in
+    let h = start .args .h in
+    told-refused Area-set (w ∷ h ∷ (w * h) ∷ []) (c .before .r .given .0 .0) 2
+    ∙ ap (told Area-set (w ∷ h ∷ (w * h) ∷ [])) (ap finish-figures (sym (c .before .r .given .1)) ∙ finish-square .finish-square .ensures)
 
 pub area-set-spec : {M : Type 1} → statement M
 area-set-spec =

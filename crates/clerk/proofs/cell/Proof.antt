@@ -21,7 +21,9 @@ returns : tie.Need-returns
 returns c = ap (told Cell []) (ap square-figures (sym (c .before .x .given .1)) ∙ c .before .before .before .number-to-square .ensures)
 
 returns-2 : tie.Need-returns-2
-returns-2 c = told-refused Cell [] (c .before .r .given .0 .0) 3 ∙ ap (told Cell []) (ap square-figures (sym (c .before .r .given .1)) ∙ c .before .before .before .number-to-square .ensures)
+returns-2 c =
+    told-refused Cell [] (c .before .r .given .0 .0) 3
+    ∙ ap (told Cell []) (ap square-figures (sym (c .before .r .given .1)) ∙ c .before .before .before .number-to-square .ensures)
 
 pub cell-spec : {M : Type 1} → statement M
 cell-spec =

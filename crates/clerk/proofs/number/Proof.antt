@@ -21,7 +21,9 @@ returns : tie.Need-returns
 returns c = ap (told Number []) (ap number-figures (sym (c .before .number .given .1)) ∙ c .before .before .before .square-to-number .ensures)
 
 returns-2 : tie.Need-returns-2
-returns-2 c = told-refused Number [] (c .before .r .given .0 .0) 2 ∙ ap (told Number []) (ap number-figures (sym (c .before .r .given .1)) ∙ c .before .before .before .square-to-number .ensures)
+returns-2 c =
+    told-refused Number [] (c .before .r .given .0 .0) 2
+    ∙ ap (told Number []) (ap number-figures (sym (c .before .r .given .1)) ∙ c .before .before .before .square-to-number .ensures)
 
 pub number-spec : {M : Type 1} → statement M
 number-spec =

@@ -34,22 +34,30 @@ either-requires c κs = search needs
 
 mul-t7 : tie.Need-mul-t7
 mul-t7 c =
-    let off = rest-of (c .before .before .before .before .before .args .i) (c .before .before .before .before .even-half .result) (c .before .before .before .before .before .args .k .b) (c .before .either .result) (c .before .either .ensures) in
-    record { fits = omega (arith, c .before .before .before .before .before .fits .i) }
+    let half = c .before .before .before .before in
+    let start = half .before in
+    let off = rest-of (start .args .i) (half .even-half .result) (start .args .k .b) (c .before .either .result) (c .before .either .ensures) in
+    record { fits = omega (arith, start .fits .i) }
 
 sub-t8 : tie.Need-sub-t8
-sub-t8 c = rest-of (c .before .before .before .before .before .args .i) (c .before .before .before .before .even-half .result) (c .before .before .before .before .before .args .k .b) (c .before .either .result) (c .before .either .ensures)
+sub-t8 c =
+    let half = c .before .before .before .before in
+    let start = half .before in
+    rest-of (start .args .i) (half .even-half .result) (start .args .k .b) (c .before .either .result) (c .before .either .ensures)
 
 returns : tie.Need-returns
 returns c =
-    let start = c .before .before .before .before .before in
-    let e = c .before .before .before .before .even-half in
+    let long-part = c .before .before in
+    let half = long-part .before .before in
+    let start = half .before in
+    let e = half .even-half in
     let k = start .args .k in
     let i = start .args .i in
     let second = leb (e .result * k .b) i in
     let test : leb (even-half (k .a) * k .b) i ≡ second = ap (λ n. leb (n * k .b) i) (sym (e .ensures)) in
-    subst (λ (q : Block). Enters (block k) i q (i - c .before .either .result * k .b)) (sym (c .before .before .long-part .ensures))
-    (subst (λ (n : ℕ). Enters (block k) i (part (cond second Second First) (block k)) (i - n * k .b)) (ap (λ n. cond second n 0) (sym (e .ensures)) ∙ sym (c .before .either .ensures))
+    subst (λ (q : Block). Enters (block k) i q (i - c .before .either .result * k .b)) (sym (long-part .long-part .ensures))
+    (subst (λ (n : ℕ). Enters (block k) i (part (cond second Second First) (block k)) (i - n * k .b))
+    (ap (λ n. cond second n 0) (sym (e .ensures)) ∙ sym (c .before .either .ensures))
     (long-enters (block k) i (start .pre .0) (start .pre .1) (start .pre .2) second test))
 
 pub long-with-spec : {M : Type 1} → statement M

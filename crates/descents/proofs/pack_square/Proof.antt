@@ -9,7 +9,8 @@ use Rattle.descents.proofs.pack_square.Statement.{statement}
 use Rattle.descents.proofs.pack_square.Tie as tie
 
 packed-by : (along across blocks : ℕ) (turned : Bool)
-    → (cond turned across along * 65536 + cond turned along across) * 256 + blocks ≡ square-packed (cond turned (square across along) (square along across)) blocks
+    → (cond turned across along * 65536 + cond turned along across) * 256 + blocks ≡ square-packed (cond turned (square across along) (square along across))
+    blocks
 packed-by along across blocks true = refl
 packed-by along across blocks false = refl
 

@@ -14,49 +14,66 @@ even-half-requires : tie.Need-even-half-requires
 even-half-requires c κs = search needs
 
 mul-to-b : tie.Need-mul-to-b
-mul-to-b c = record { fits = block-sums (block (c .before .before .args .k)) (c .before .before .pre .0) (c .before .before .pre .2) (c .before .even-half .result) (c .before .even-half .ensures) .in-a }
+mul-to-b c =
+    let start = c .before .before in
+    record { fits = block-sums (block (start .args .k)) (start .pre .0) (start .pre .2) (c .before .even-half .result) (c .before .even-half .ensures) .in-a }
 
 part-a-requires : tie.Need-part-a-requires
 part-a-requires c κs = search needs
 
 returns : tie.Need-returns
 returns c =
-    let start = c .before .before .before .before in
-    let e = c .before .before .before .even-half in
+    let half = c .before .before .before in
+    let start = half .before in
+    let i = start .args .i in
+    let e = half .even-half in
     let k = start .args .k in
-    subst (λ (q : Block). Enters (block k) (start .args .i) q (start .args .i)) (sym (c .part-a .ensures))
-    (a-enters (block k) (start .args .i) (start .pre .0) (start .pre .1) (start .pre .2) (subst (λ (n : ℕ). start .args .i < n * (k .a / 2)) (e .ensures) (c .before .if1 .taken)))
+    subst (λ (q : Block). Enters (block k) i q i) (sym (c .part-a .ensures))
+    (a-enters (block k) i (start .pre .0) (start .pre .1) (start .pre .2) (subst (λ (n : ℕ). i < n * (k .a / 2)) (e .ensures) (c .before .if1 .taken)))
 
 sub-to-c : tie.Need-sub-to-c
-sub-to-c c = block-sums (block (c .before .before .before .before .args .k)) (c .before .before .before .before .pre .0) (c .before .before .before .before .pre .2) (c .before .before .before .even-half .result) (c .before .before .before .even-half .ensures) .half
+sub-to-c c =
+    let half = c .before .before .before in
+    let start = half .before in
+    block-sums (block (start .args .k)) (start .pre .0) (start .pre .2) (half .even-half .result) (half .even-half .ensures) .half
 
 mul-to-c : tie.Need-mul-to-c
-mul-to-c c = record { fits = block-sums (block (c .before .before .before .before .before .args .k)) (c .before .before .before .before .before .pre .0) (c .before .before .before .before .before .pre .2) (c .before .before .before .before .even-half .result) (c .before .before .before .before .even-half .ensures) .in-b }
+mul-to-c c =
+    let half = c .before .before .before .before in
+    let start = half .before in
+    record { fits = block-sums (block (start .args .k)) (start .pre .0) (start .pre .2) (half .even-half .result) (half .even-half .ensures) .in-b }
 
 add-to-c : tie.Need-add-to-c
-add-to-c c = let to = block-sums (block (c .before .before .before .before .before .args .k)) (c .before .before .before .before .before .pre .0) (c .before .before .before .before .before .pre .2) (c .before .before .before .before .even-half .result) (c .before .before .before .before .even-half .ensures) .to-c in omega arith
+add-to-c c =
+    let half = c .before .before .before .before in
+    let start = half .before in
+    let to = block-sums (block (start .args .k)) (start .pre .0) (start .pre .2) (half .even-half .result) (half .even-half .ensures) .to-c in
+    omega arith
 
 part-b-requires : tie.Need-part-b-requires
 part-b-requires c κs = search needs
 
 returns-2 : tie.Need-returns-2
 returns-2 c =
-    let start = c .before .before .before .before .before .before .before in
-    let e = c .before .before .before .before .before .before .even-half in
+    let first-test = c .before .before .before .before in
+    let half = first-test .before .before in
+    let start = half .before in
+    let e = half .even-half in
     let k = start .args .k in
     let i = start .args .i in
     let m = k .a / 2 in
     subst (λ (q : Block). Enters (block k) i q (i - e .result * m)) (sym (c .part-b .ensures))
     (subst⁻¹ (λ (n : ℕ). n * m ≤ i → i < n * m + k .a * (k .b - n) → Enters (block k) i (part B (block k)) (i - n * m)) (e .ensures)
-    (b-enters (block k) i (start .pre .0) (start .pre .1) (start .pre .2)) (c .before .before .before .before .if1 .left) (c .before .if2 .taken))
+    (b-enters (block k) i (start .pre .0) (start .pre .1) (start .pre .2)) (first-test .if1 .left) (c .before .if2 .taken))
 
 part-c-requires : tie.Need-part-c-requires
 part-c-requires c κs = search needs
 
 returns-3 : tie.Need-returns-3
 returns-3 c =
-    let start = c .before .before .before .before .before .before .before in
-    let e = c .before .before .before .before .before .before .even-half in
+    let half = c .before .before .before .before .before .before in
+    let start = half .before in
+    let e = half .even-half in
     let k = start .args .k in
     let i = start .args .i in
     let m = k .a / 2 in

@@ -27,7 +27,18 @@ search-below t = and 0 search-kinds.ps (falls 0 search-kinds.ps _<_ μ-search t)
 
 -- what is asked and learnt at each call of `search`
 abbrev search-calls : ℕ → search-lts.Claims
-search-calls t = (choose-reads.Asked, choose-reads.Learnt, pack-number-reads.Asked, pack-number-reads.Learnt, long-at-reads.Asked, long-at-reads.Learnt, search-below t, search′.Post, u-at-reads.Asked, u-at-reads.Learnt)
+search-calls t = (
+  choose-reads.Asked,
+  choose-reads.Learnt,
+  pack-number-reads.Asked,
+  pack-number-reads.Learnt,
+  long-at-reads.Asked,
+  long-at-reads.Learnt,
+  search-below t,
+  search′.Post,
+  u-at-reads.Asked,
+  u-at-reads.Learnt,
+)
 
 search-choose-requires : (t : ℕ) → search-lts.Need-choose-requires (search-calls t) (search-at t) search′.Post
 search-choose-requires t c κs = (c .pre .1 .lying .a-limit, c .pre .1 .lying .b-limit)
@@ -39,7 +50,11 @@ search-add-pack-number : (t : ℕ) → search-lts.Need-add-pack-number (search-c
 search-add-pack-number t c = record { fits = along-fits (c .before .before .before .pre .1) }
 
 search-add-pack-number-2 : (t : ℕ) → search-lts.Need-add-pack-number-2 (search-calls t) (search-at t) search′.Post
-search-add-pack-number-2 t c = let l = run-count (c .before .before .before .pre .1) (sym (c .before .before .choose .ensures) ∙ c .enum-told .given .1) in omega arith
+search-add-pack-number-2 t c =
+    let choose = c .before .before in
+    let start = choose .before in
+    let l = run-count (start .pre .1) (sym (choose .choose .ensures) ∙ c .enum-told .given .1) in
+    omega arith
 
 search-pack-number-requires : (t : ℕ) → search-lts.Need-pack-number-requires (search-calls t) (search-at t) search′.Post
 search-pack-number-requires t c κs = tt
@@ -51,7 +66,11 @@ search-add-pack-number-3 : (t : ℕ) → search-lts.Need-add-pack-number-3 (sear
 search-add-pack-number-3 t c = record { fits = across-fits (c .before .before .before .pre .1) }
 
 search-add-pack-number-4 : (t : ℕ) → search-lts.Need-add-pack-number-4 (search-calls t) (search-at t) search′.Post
-search-add-pack-number-4 t c = let l = side-count (c .before .before .before .pre .1) (sym (c .before .before .choose .ensures) ∙ c .enum-told2 .given .1) in omega arith
+search-add-pack-number-4 t c =
+    let choose = c .before .before in
+    let start = choose .before in
+    let l = side-count (start .pre .1) (sym (choose .choose .ensures) ∙ c .enum-told2 .given .1) in
+    omega arith
 
 search-pack-number-requires-2 : (t : ℕ) → search-lts.Need-pack-number-requires-2 (search-calls t) (search-at t) search′.Post
 search-pack-number-requires-2 t c κs = tt
@@ -66,10 +85,12 @@ search-add-search : (t : ℕ) → search-lts.Need-add-search (search-calls t) (s
 search-add-search t c = let l = next-search (c .before .before .before .before .before .pre .1) (c .before .long-at .ensures) .count in omega arith
 
 search-search-requires : (t : ℕ) → search-lts.Need-search-requires (search-calls t) (search-at t) search′.Post
-search-search-requires t c κs = (
-  subst (λ (m : ℕ). c .before .long-at .result .spot .a * c .before .long-at .result .spot .b < m) (c .before .before .before .before .before .pre .0) (c .before .long-at .ensures .falls),
-  next-search (c .before .before .before .before .before .pre .1) (c .before .long-at .ensures),
-)
+search-search-requires t c κs =
+    let long-at = c .before in
+    let start = long-at .before .before .before .before in (
+      subst (λ (m : ℕ). long-at .long-at .result .spot .a * long-at .long-at .result .spot .b < m) (start .pre .0) (long-at .long-at .ensures .falls),
+      next-search (start .pre .1) (long-at .long-at .ensures),
+    )
 
 search-enum-told-4 : (t : ℕ) → search-lts.Need-enum-told-4 (search-calls t) (search-at t) search′.Post
 search-enum-told-4 t c = c .match .keys4
@@ -81,16 +102,24 @@ search-add-search-2 : (t : ℕ) → search-lts.Need-add-search-2 (search-calls t
 search-add-search-2 t c = let l = next-search (c .before .before .before .before .before .pre .1) (c .before .u-at .ensures) .count in omega arith
 
 search-search-requires-2 : (t : ℕ) → search-lts.Need-search-requires-2 (search-calls t) (search-at t) search′.Post
-search-search-requires-2 t c κs = (
-  subst (λ (m : ℕ). c .before .u-at .result .spot .a * c .before .u-at .result .spot .b < m) (c .before .before .before .before .before .pre .0) (c .before .u-at .ensures .falls),
-  next-search (c .before .before .before .before .before .pre .1) (c .before .u-at .ensures),
-)
+search-search-requires-2 t c κs =
+    let u-at = c .before in
+    let start = u-at .before .before .before .before in (
+      subst (λ (m : ℕ). u-at .u-at .result .spot .a * u-at .u-at .result .spot .b < m) (start .pre .0) (u-at .u-at .ensures .falls),
+      next-search (start .pre .1) (u-at .u-at .ensures),
+    )
 
 search-returns : (t : ℕ) → search-lts.Need-returns (search-calls t) (search-at t) search′.Post
-search-returns t c = c .pack-number .ensures ∙ run-packed (c .before .before .before .before .pre .1) (sym (c .before .before .before .choose .ensures) ∙ c .before .enum-told .given .1)
+search-returns t c =
+    let choose = c .before .before .before in
+    let start = choose .before in
+    c .pack-number .ensures ∙ run-packed (start .pre .1) (sym (choose .choose .ensures) ∙ c .before .enum-told .given .1)
 
 search-returns-2 : (t : ℕ) → search-lts.Need-returns-2 (search-calls t) (search-at t) search′.Post
-search-returns-2 t c = c .pack-number2 .ensures ∙ side-packed (c .before .before .before .before .pre .1) (sym (c .before .before .before .choose .ensures) ∙ c .before .enum-told2 .given .1)
+search-returns-2 t c =
+    let choose = c .before .before .before in
+    let start = choose .before in
+    c .pack-number2 .ensures ∙ side-packed (start .pre .1) (sym (choose .choose .ensures) ∙ c .before .enum-told2 .given .1)
 
 search-returns-3 : (t : ℕ) → search-lts.Need-returns-3 (search-calls t) (search-at t) search′.Post
 search-returns-3 t c = c .search .ensures ∙ next-packed (c .before .before .before .before .before .before .pre .1) (c .before .before .long-at .ensures)

@@ -28,20 +28,27 @@ sub-t4 c = spot-less (c .before .before .before .args .s) (c .before .before .in
 
 mul-t5 : tie.Need-mul-t5
 mul-t5 c =
-    let s = c .before .before .before .before .args .s in
-    let r = c .before .before .before .before .pre .0 in
-    let part : (s .u - c .before .before .before .in-long .result .u) * s .b ≤ s .a * s .b = mul-le-mul-right (s .b) (let l = r .along in omega arith) in
+    let in-long = c .before .before .before in
+    let start = in-long .before in
+    let s = start .args .s in
+    let r = start .pre .0 in
+    let part : (s .u - in-long .in-long .result .u) * s .b ≤ s .a * s .b = mul-le-mul-right (s .b) (let l = r .along in omega arith) in
     record { fits = let room = r .room in omega arith }
 
 add-t6 : tie.Need-add-t6
 add-t6 c =
-    let s = c .before .before .before .before .args .s in
-    let r = c .before .before .before .before .pre .0 in
-    let part : (s .u - c .before .before .before .in-long .result .u) * s .b ≤ s .a * s .b = mul-le-mul-right (s .b) (let l = r .along in omega arith) in
+    let in-long = c .before .before .before in
+    let start = in-long .before in
+    let s = start .args .s in
+    let r = start .pre .0 in
+    let part : (s .u - in-long .in-long .result .u) * s .b ≤ s .a * s .b = mul-le-mul-right (s .b) (let l = r .along in omega arith) in
     record { fits = let room = r .room in omega arith }
 
 returns : tie.Need-returns
-returns c = long-leads (c .before .before .before .before .args .s) (c .before .before .before .before .args .before) (c .before .before .before .before .pre .0) (c .before .before .before .before .pre .1) (c .before .before .before .in-long .result) (c .before .before .before .in-long .ensures)
+returns c =
+    let in-long = c .before .before .before in
+    let start = in-long .before in
+    long-leads (start .args .s) (start .args .before) (start .pre .0) (start .pre .1) (in-long .in-long .result) (in-long .in-long .ensures)
 
 pub long-at-spec : {M : Type 1} → statement M
 long-at-spec = tie.close (tie.spec in-long-requires sub-t4 mul-t5 add-t6 returns)

@@ -11,40 +11,92 @@ even-half-requires : tie.Need-even-half-requires
 even-half-requires c κs = search needs
 
 mul-to-b : tie.Need-mul-to-b
-mul-to-b c = record { fits = spot-sums (c .before .before .args .s) (c .before .before .args .before) (c .before .before .pre .0) (c .before .before .pre .1) (c .before .even-half .result) (c .before .even-half .ensures) .in-a }
+mul-to-b c =
+    let start = c .before .before in
+    record {
+      fits = spot-sums (start .args .s) (start .args .before) (start .pre .0) (start .pre .1) (c .before .even-half .result)
+          (c .before .even-half .ensures) .in-a;
+    }
 
 in-b-requires : tie.Need-in-b-requires
-in-b-requires c κs = (u-two (c .before .before .before .before .args .s) (c .before .before .before .before .args .before) (c .before .before .before .before .pre .0) (c .before .before .before .before .pre .1) .1, subst (λ (n : ℕ). n ≤ c .before .before .before .before .args .s .v) (c .before .before .before .even-half .ensures) (c .if1 .taken))
+in-b-requires c κs =
+    let half = c .before .before .before in
+    let start = half .before in
+    let s = start .args .s in
+    (u-two s (start .args .before) (start .pre .0) (start .pre .1) .1, subst (λ (n : ℕ). n ≤ s .v) (half .even-half .ensures) (c .if1 .taken))
 
 add-t10 : tie.Need-add-t10
-add-t10 c = record { fits = spot-sums (c .before .before .before .before .before .args .s) (c .before .before .before .before .before .args .before) (c .before .before .before .before .before .pre .0) (c .before .before .before .before .before .pre .1) (c .before .before .before .before .even-half .result) (c .before .before .before .before .even-half .ensures) .to-b }
+add-t10 c =
+    let half = c .before .before .before .before in
+    let start = half .before in
+    record {
+      fits = spot-sums (start .args .s) (start .args .before) (start .pre .0) (start .pre .1) (half .even-half .result) (half .even-half .ensures) .to-b;
+    }
 
 returns : tie.Need-returns
-returns c = b-leads (c .before .before .before .before .before .args .s) (c .before .before .before .before .before .args .before) (c .before .before .before .before .before .pre .0) (c .before .before .before .before .before .pre .1) (c .before .before .before .before .even-half .result) (c .before .before .before .before .even-half .ensures) (c .in-b .result) (c .in-b .ensures) (c .before .if1 .taken)
+returns c =
+    let half = c .before .before .before .before in
+    let start = half .before in
+    b-leads (start .args .s) (start .args .before) (start .pre .0) (start .pre .1) (half .even-half .result) (half .even-half .ensures) (c .in-b .result)
+    (c .in-b .ensures) (c .before .if1 .taken)
 
 in-a-requires : tie.Need-in-a-requires
 in-a-requires c κs = search needs
 
 returns-2 : tie.Need-returns-2
-returns-2 c = a-leads (c .before .before .before .before .before .before .before .before .args .s) (c .before .before .before .before .before .before .before .before .args .before) (c .before .before .before .before .before .before .before .before .pre .0) (c .before .before .before .before .before .before .before .before .pre .1) (c .before .before .before .before .before .before .before .even-half .result) (c .before .before .before .before .before .before .before .even-half .ensures) (c .in-a .result) (c .in-a .ensures) (c .before .before .before .before .if1 .left) (c .before .if2 .taken)
+returns-2 c =
+    let first-test = c .before .before .before .before in
+    let half = first-test .before .before .before in
+    let start = half .before in
+    a-leads (start .args .s) (start .args .before) (start .pre .0) (start .pre .1) (half .even-half .result) (half .even-half .ensures) (c .in-a .result)
+    (c .in-a .ensures) (first-test .if1 .left) (c .before .if2 .taken)
 
 in-c-requires : tie.Need-in-c-requires
 in-c-requires c κs = search needs
 
 add-t8 : tie.Need-add-t8
-add-t8 c = record { fits = spot-sums (c .before .before .before .before .before .before .before .before .args .s) (c .before .before .before .before .before .before .before .before .args .before) (c .before .before .before .before .before .before .before .before .pre .0) (c .before .before .before .before .before .before .before .before .pre .1) (c .before .before .before .before .before .before .before .even-half .result) (c .before .before .before .before .before .before .before .even-half .ensures) .to-b }
+add-t8 c =
+    let first-test = c .before .before .before .before in
+    let half = first-test .before .before .before in
+    let start = half .before in
+    record {
+      fits = spot-sums (start .args .s) (start .args .before) (start .pre .0) (start .pre .1) (half .even-half .result) (half .even-half .ensures) .to-b;
+    }
 
 sub-t11 : tie.Need-sub-t11
-sub-t11 c = spot-sums (c .before .before .before .before .before .before .before .before .before .args .s) (c .before .before .before .before .before .before .before .before .before .args .before) (c .before .before .before .before .before .before .before .before .before .pre .0) (c .before .before .before .before .before .before .before .before .before .pre .1) (c .before .before .before .before .before .before .before .before .even-half .result) (c .before .before .before .before .before .before .before .before .even-half .ensures) .half
+sub-t11 c =
+    let first-test = c .before .before .before .before .before in
+    let half = first-test .before .before .before in
+    let start = half .before in
+    spot-sums (start .args .s) (start .args .before) (start .pre .0) (start .pre .1) (half .even-half .result) (half .even-half .ensures) .half
 
 mul-t12 : tie.Need-mul-t12
-mul-t12 c = record { fits = spot-sums (c .before .before .before .before .before .before .before .before .before .before .args .s) (c .before .before .before .before .before .before .before .before .before .before .args .before) (c .before .before .before .before .before .before .before .before .before .before .pre .0) (c .before .before .before .before .before .before .before .before .before .before .pre .1) (c .before .before .before .before .before .before .before .before .before .even-half .result) (c .before .before .before .before .before .before .before .before .before .even-half .ensures) .in-b }
+mul-t12 c =
+    let first-test = c .before .before .before .before .before .before in
+    let half = first-test .before .before .before in
+    let start = half .before in
+    record {
+      fits = spot-sums (start .args .s) (start .args .before) (start .pre .0) (start .pre .1) (half .even-half .result) (half .even-half .ensures) .in-b;
+    }
 
 add-t13 : tie.Need-add-t13
-add-t13 c = record { fits = spot-sums (c .before .before .before .before .before .before .before .before .before .before .args .s) (c .before .before .before .before .before .before .before .before .before .before .args .before) (c .before .before .before .before .before .before .before .before .before .before .pre .0) (c .before .before .before .before .before .before .before .before .before .before .pre .1) (c .before .before .before .before .before .before .before .before .before .even-half .result) (c .before .before .before .before .before .before .before .before .before .even-half .ensures) .to-c }
+add-t13 c =
+    let first-test = c .before .before .before .before .before .before in
+    let half = first-test .before .before .before in
+    let start = half .before in
+    record {
+      fits = spot-sums (start .args .s) (start .args .before) (start .pre .0) (start .pre .1) (half .even-half .result) (half .even-half .ensures) .to-c;
+    }
 
 returns-3 : tie.Need-returns-3
-returns-3 c = c-leads (c .before .before .before .before .before .before .before .before .before .before .args .s) (c .before .before .before .before .before .before .before .before .before .before .args .before) (c .before .before .before .before .before .before .before .before .before .before .pre .0) (c .before .before .before .before .before .before .before .before .before .before .pre .1) (c .before .before .before .before .before .before .before .before .before .even-half .result) (c .before .before .before .before .before .before .before .before .before .even-half .ensures) (c .before .before .in-c .result) (c .before .before .in-c .ensures) (c .before .before .before .before .before .before .if1 .left) (c .before .before .before .if2 .left)
+returns-3 c =
+    let in-c = c .before .before in
+    let second-test = in-c .before in
+    let first-test = second-test .before .before .before in
+    let half = first-test .before .before .before in
+    let start = half .before in
+    c-leads (start .args .s) (start .args .before) (start .pre .0) (start .pre .1) (half .even-half .result) (half .even-half .ensures) (in-c .in-c .result)
+    (in-c .in-c .ensures) (first-test .if1 .left) (second-test .if2 .left)
 
 pub u-at-spec : {M : Type 1} → statement M
 u-at-spec =
