@@ -22,7 +22,7 @@ fn declares(path: &Path, name: &str) -> bool {
     let ends = |rest: &str| !rest.starts_with(|c: char| c.is_alphanumeric() || c == '_' || c == '-');
     text.lines().any(|line| {
         let mut words = line.trim_start();
-        let prefixes: &[&str] = if code { &["pub ", "extern \"C\" "] } else { &["abbrev ", "unfoldable ", "pub ", "data ", "record "] };
+        let prefixes: &[&str] = if code { &["pub ", "pub(crate) ", "extern \"C\" "] } else { &["abbrev ", "unfoldable ", "pub ", "data ", "record "] };
         while let Some(rest) = prefixes.iter().find_map(|prefix| words.strip_prefix(prefix)) {
             words = rest;
         }

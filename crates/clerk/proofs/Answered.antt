@@ -21,39 +21,39 @@ use Rattle.clerk.specs.Clerk as spec
 pub line-refused : (clerk : Clerk) (line : List ℕ) (r : Refusal) → request line ≡ Requests.the-variants.Refused r
     → spec.reply clerk line ≡ spec.says spec.Refused (refusal-number r ∷ [])
 unfolding spec.reply
-line-refused clerk line r e = ap (spec.due clerk) e
+line-refused clerk line r e = ap (spec.reply-to clerk) e
 
 -- "CELL x y k": the line `N i` under an area, with the figures of number to square, or its refusal; and 7 with no area.
 module _ (i : ℕ) (most : i ≤ 4294967295) where
   pub cell-replied : (area : Area) (x y k : ℕ) → number-to-square (area .w) (area .h) i ≡ answered (x ∷ y ∷ k ∷ [])
       → spec.reply (InForce area) (with-one N i) ≡ spec.says spec.Cell (x ∷ y ∷ k ∷ [])
   unfolding spec.reply
-  cell-replied area x y k e = ap (spec.due (InForce area)) (number-spelt i most) ∙ ap (spec.told spec.Cell []) e
+  cell-replied area x y k e = ap (spec.reply-to (InForce area)) (number-spelt i most) ∙ ap (spec.from-call spec.Cell []) e
 
   pub number-refused : (area : Area) (r : Refusal) → number-to-square (area .w) (area .h) i ≡ refused r 3
       → spec.reply (InForce area) (with-one N i) ≡ spec.says spec.Refused (refusal-number r ∷ [])
   unfolding spec.reply
-  number-refused area r e = ap (spec.due (InForce area)) (number-spelt i most) ∙ ap (spec.told spec.Cell []) e ∙ rw (refusal-not-0 r) refl
+  number-refused area r e = ap (spec.reply-to (InForce area)) (number-spelt i most) ∙ ap (spec.from-call spec.Cell []) e ∙ rw (refusal-not-0 r) refl
 
   pub number-without-area : spec.reply NoArea (with-one N i) ≡ spec.says spec.Refused (7 ∷ [])
   unfolding spec.reply
-  number-without-area = ap (spec.due NoArea) (number-spelt i most)
+  number-without-area = ap (spec.reply-to NoArea) (number-spelt i most)
 
 -- "NUMBER i k": the line `S x y`, likewise.
 module _ (x y : ℕ) (most : x ≤ 4294967295) (most′ : y ≤ 4294967295) where
   pub number-replied : (area : Area) (i k : ℕ) → square-to-number (area .w) (area .h) x y ≡ answered (i ∷ k ∷ [])
       → spec.reply (InForce area) (with-two S x y) ≡ spec.says spec.Number (i ∷ k ∷ [])
   unfolding spec.reply
-  number-replied area i k e = ap (spec.due (InForce area)) (square-spelt x y most most′) ∙ ap (spec.told spec.Number []) e
+  number-replied area i k e = ap (spec.reply-to (InForce area)) (square-spelt x y most most′) ∙ ap (spec.from-call spec.Number []) e
 
   pub square-refused : (area : Area) (r : Refusal) → square-to-number (area .w) (area .h) x y ≡ refused r 2
       → spec.reply (InForce area) (with-two S x y) ≡ spec.says spec.Refused (refusal-number r ∷ [])
   unfolding spec.reply
-  square-refused area r e = ap (spec.due (InForce area)) (square-spelt x y most most′) ∙ ap (spec.told spec.Number []) e ∙ rw (refusal-not-0 r) refl
+  square-refused area r e = ap (spec.reply-to (InForce area)) (square-spelt x y most most′) ∙ ap (spec.from-call spec.Number []) e ∙ rw (refusal-not-0 r) refl
 
   pub square-without-area : spec.reply NoArea (with-two S x y) ≡ spec.says spec.Refused (7 ∷ [])
   unfolding spec.reply
-  square-without-area = ap (spec.due NoArea) (square-spelt x y most most′)
+  square-without-area = ap (spec.reply-to NoArea) (square-spelt x y most most′)
 
 -- "AREA w h n fx fy (n squares, finish square)", whatever was in force; and 1 for two numbers that are no area.
 module _ (clerk : Clerk) (w h : ℕ) where
@@ -63,8 +63,8 @@ module _ (clerk : Clerk) (w h : ℕ) where
       let all = limits w h ok in
       let wide = all .w-most in
       let high = all .h-most in
-      ap (spec.due clerk) (area-spelt w h (omega arith) (omega arith)) ∙ rw ok refl
+      ap (spec.reply-to clerk) (area-spelt w h (omega arith) (omega arith)) ∙ rw ok refl
 
   pub area-refused : w ≤ 4294967295 → h ≤ 4294967295 → accepted w h ≡ false → spec.reply clerk (with-two AREA w h) ≡ spec.says spec.Refused (1 ∷ [])
   unfolding spec.reply finish-square area-refusal
-  area-refused most most′ bad = ap (spec.due clerk) (area-spelt w h most most′) ∙ rw bad refl
+  area-refused most most′ bad = ap (spec.reply-to clerk) (area-spelt w h most most′) ∙ rw bad refl

@@ -15,36 +15,36 @@ use Rattle.curve.specs.Lookups.{number-to-square, square-to-number, finish-squa
 use Rattle.lines.specs.declared.Request.{Request}
 use Rattle.lines.specs.declared.Request as Requests
 use Rattle.lines.specs.declared.Request.the-variants.{SetArea, AskNumber, AskSquare}
-use Rattle.words.specs.Words.{same-bytes}
+use Rattle.words.specs.Words.{begins, same-bytes}
 use Rattle.lines.specs.Lines.{AREA, N, S, request}
 use Rattle.words.proofs.Same.{same-itself, same-true}
 use Rattle.lines.proofs.Asking.{with-one, with-two, Says, says-so, area-spelt}
 use Rattle.clerk.specs.declared.Clerk.{Clerk}
 use Rattle.clerk.specs.declared.Clerk.the-variants.{NoArea, InForce}
 use Rattle.clerk.specs.Clerk as spec
-use Rattle.clerk.proofs.Handling.{value, word-mark, mark, told-refused}
+use Rattle.clerk.proofs.Handling.{value, word-mark, mark, call-refused}
 
 -- a reply with another word than AREA
-told-other : (word : spec.Word) (first : List ℕ) (f : Figures) (b : Bool) → 1 ≤ word-mark word
+call-other : (word : spec.Word) (first : List ℕ) (f : Figures) (b : Bool) → 1 ≤ word-mark word
     → mark (cond b (spec.says word (first ++ f .values)) (spec.says spec.Refused (f .refusal ∷ []))) ≡ 0 → ⊥
-told-other word first f true l e = omega arith
-told-other word first f false l e = omega arith
+call-other word first f true l e = omega arith
+call-other word first f false l e = omega arith
 
 under-other : (clerk : Clerk) (word : spec.Word) (f : Area → Figures) → 1 ≤ word-mark word
-    → mark (spec.under clerk (λ area. spec.told word [] (f area))) ≡ 0 → ⊥
+    → mark (spec.under clerk (λ area. spec.from-call word [] (f area))) ≡ 0 → ⊥
 under-other NoArea word f l e = omega arith
-under-other (InForce area) word f l e = told-other word [] (f area) (eqb (f area .refusal) 0) l e
+under-other (InForce area) word f l e = call-other word [] (f area) (eqb (f area .refusal) 0) l e
 
 -- what is said to an AREA line
 abbrev to-area : ℕ → ℕ → spec.Said
-to-area w h = spec.told spec.Area-set (w ∷ h ∷ (w * h) ∷ []) (finish-square w h)
+to-area w h = spec.from-call spec.Area-set (w ∷ h ∷ (w * h) ∷ []) (finish-square w h)
 
 to-no-area : (w h : ℕ) → accepted w h ≡ false → to-area w h ≡ spec.says spec.Refused (refusal-number (area-refusal w h) ∷ [])
 unfolding finish-square
-to-no-area w h bad = rw bad (sym (told-refused spec.Area-set (w ∷ h ∷ (w * h) ∷ []) (area-refusal w h) 2))
+to-no-area w h bad = rw bad (sym (call-refused spec.Area-set (w ∷ h ∷ (w * h) ∷ []) (area-refusal w h) 2))
 
 module _ (v u w h : ℕ) (rest : List ℕ) (e : to-area v u ≡ spec.says spec.Area-set (w ∷ h ∷ rest)) where
-  set-by : (t : Bool) → accepted v u ≡ t → spec.in-force (record { w = v; h = u }) ≡ InForce (record { w = w; h = h })
+  set-by : (t : Bool) → accepted v u ≡ t → spec.clerk-under (record { w = v; h = u }) ≡ InForce (record { w = w; h = h })
   unfolding finish-square
   set-by true ok =
       let is : to-area v u ≡ spec.says spec.Area-set (v ∷ u ∷ (v * u) ∷ finish-square v u .values) = rw ok refl in
@@ -54,8 +54,8 @@ module _ (v u w h : ℕ) (rest : List ℕ) (e : to-area v u ≡ spec.says spec.A
       let other : mark (to-area v u) ≡ 0 = ap mark e in
       absurd (omega arith)
 
-left-set : (clerk : Clerk) (begins : Bool) (q : Request) (w h : ℕ) (rest : List ℕ) → spec.due clerk q ≡ spec.says spec.Area-set (w ∷ h ∷ rest)
-    → spec.left-by clerk begins q ≡ InForce (record { w = w; h = h })
+left-set : (clerk : Clerk) (begins : Bool) (q : Request) (w h : ℕ) (rest : List ℕ) → spec.reply-to clerk q ≡ spec.says spec.Area-set (w ∷ h ∷ rest)
+    → spec.clerk-after clerk begins q ≡ InForce (record { w = w; h = h })
 left-set clerk begins (SetArea v u) w h rest e = set-by v u w h rest e (accepted v u) refl
 left-set clerk begins (AskNumber i) w h rest e =
     absurd (under-other clerk spec.Cell (λ area. number-to-square (area .w) (area .h) i) (lit≤ tt) (ap mark e))
@@ -67,7 +67,7 @@ left-set clerk begins (Requests.the-variants.Refused r) w h rest e = let other :
 pub set-in-force : (clerk : Clerk) (line : List ℕ) (w h : ℕ) (rest : List ℕ) → spec.reply clerk line ≡ spec.says spec.Area-set (w ∷ h ∷ rest)
     → spec.after clerk line ≡ InForce (record { w = w; h = h })
 unfolding spec.reply spec.after
-set-in-force clerk line w h rest e = left-set clerk (spec.begins-area line) (request line) w h rest e
+set-in-force clerk line w h rest e = left-set clerk (begins line AREA) (request line) w h rest e
 
 -- an area that is refused, and one that is not
 module _ (w h : ℕ) where
@@ -104,19 +104,19 @@ pub record Sets (clerk : Clerk) (line : List ℕ) : Type 0 where
   pub set : spec.after clerk line ≡ InForce (record { w = w; h = h })
 
 module _ (clerk : Clerk) (line : List ℕ) where
-  begins-is : take 4 line ≡ AREA → spec.begins-area line ≡ true
+  begins-is : take 4 line ≡ AREA → begins line AREA ≡ true
   begins-is e = ap (λ s. same-bytes s AREA) e ∙ same-itself AREA
 
-  begins-not : (take 4 line ≡ AREA → ⊥) → spec.begins-area line ≡ false
-  begins-not other = by (spec.begins-area line) refl
+  begins-not : (take 4 line ≡ AREA → ⊥) → begins line AREA ≡ false
+  begins-not other = by (begins line AREA) refl
     where
-      by : (t : Bool) → spec.begins-area line ≡ t → spec.begins-area line ≡ false
+      by : (t : Bool) → begins line AREA ≡ t → begins line AREA ≡ false
       by false e = e
       by true e = absurd (other (same-true (take 4 line) AREA e))
 
   -- "A refused line whose first four bytes are AREA leaves no area in force, for any reason of refusal."
-  refused-by : (q : Request) → Says q line → take 4 line ≡ AREA → spec.due clerk q .word ≡ spec.Refused
-      → spec.left-by clerk (spec.begins-area line) q ≡ NoArea
+  refused-by : (q : Request) → Says q line → take 4 line ≡ AREA → spec.reply-to clerk q .word ≡ spec.Refused
+      → spec.clerk-after clerk (begins line AREA) q ≡ NoArea
   refused-by (SetArea w h) b area e = rw (refused-set w h e) refl
   refused-by (AskNumber i) b area e = absurd (other-letter line (with-one N i) (λ z. omega arith) b area)
   refused-by (AskSquare x y) b area e = absurd (other-letter line (with-two S x y) (λ z. omega arith) b area)
@@ -127,7 +127,7 @@ module _ (clerk : Clerk) (line : List ℕ) where
   refused-leaves-none = refused-by (request line) (says-so line)
 
   -- "No other line alters the area": a line that does not begin so leaves the clerk as it was.
-  other-by : (q : Request) → Says q line → (take 4 line ≡ AREA → ⊥) → spec.left-by clerk (spec.begins-area line) q ≡ clerk
+  other-by : (q : Request) → Says q line → (take 4 line ≡ AREA → ⊥) → spec.clerk-after clerk (begins line AREA) q ≡ clerk
   other-by (SetArea w h) b other = absurd (other (ap (take 4) b))
   other-by (AskNumber i) b other = refl
   other-by (AskSquare x y) b other = refl
@@ -138,11 +138,11 @@ module _ (clerk : Clerk) (line : List ℕ) where
   others-alter-nothing = other-by (request line) (says-so line)
 
   -- "An accepted AREA line sets the area for the lines below it": a line that begins so and is not refused sets exactly the area that it says.
-  accepted-by : (q : Request) → request line ≡ q → Says q line → take 4 line ≡ AREA → (spec.due clerk q .word ≡ spec.Refused → ⊥) → Sets clerk line
+  accepted-by : (q : Request) → request line ≡ q → Says q line → take 4 line ≡ AREA → (spec.reply-to clerk q .word ≡ spec.Refused → ⊥) → Sets clerk line
   unfolding spec.after
   accepted-by (SetArea w h) is b area e =
       let ok = answered-set w h e in
-      record { w = w; h = h; says = b; within = ok; set = ap (spec.left-by clerk (spec.begins-area line)) is ∙ rw ok refl }
+      record { w = w; h = h; says = b; within = ok; set = ap (spec.clerk-after clerk (begins line AREA)) is ∙ rw ok refl }
   accepted-by (AskNumber i) is b area e = absurd (other-letter line (with-one N i) (λ z. omega arith) b area)
   accepted-by (AskSquare x y) is b area e = absurd (other-letter line (with-two S x y) (λ z. omega arith) b area)
   accepted-by (Requests.the-variants.Refused r) is b area e = absurd (e refl)
@@ -158,4 +158,4 @@ area-line-sets clerk w h ok =
     let all = limits w h ok in
     let wide = all .w-most in
     let high = all .h-most in
-    ap (spec.left-by clerk (spec.begins-area (with-two AREA w h))) (area-spelt w h (omega arith) (omega arith)) ∙ rw ok refl
+    ap (spec.clerk-after clerk (begins (with-two AREA w h) AREA)) (area-spelt w h (omega arith) (omega arith)) ∙ rw ok refl

@@ -32,9 +32,9 @@ word-mark spec.Refused = 3
 abbrev pub mark : spec.Said → ℕ
 mark s = word-mark (s .word)
 
-pub told-refused : (word : spec.Word) (first : List ℕ) (r : Refusal) (n : ℕ)
-    → spec.says spec.Refused (refusal-number r ∷ []) ≡ spec.told word first (refused r n)
-told-refused word first r n = sym (rw (ne-eqb (refusal-number r) 0 (refusal-some r)))
+pub call-refused : (word : spec.Word) (first : List ℕ) (r : Refusal) (n : ℕ)
+    → spec.says spec.Refused (refusal-number r ∷ []) ≡ spec.from-call word first (refused r n)
+call-refused word first r n = sym (rw (ne-eqb (refusal-number r) 0 (refusal-some r)))
 
 -- a finish square is found under an accepted area, whose squares are a 32-bit number
 pub found-fits : (w h x y : ℕ) → answered (x ∷ y ∷ []) ≡ finish-square w h → w * h < 4294967296
@@ -49,13 +49,13 @@ found-fits w h x y e = by (accepted w h) refl
 
 -- the clerk after a refused line, which begins with AREA or does not, and after one that asks
 module _ (clerk : Clerk) {begins : Bool} {q : Request} {r : Refusal} (is : q ≡ Refused r) where
-  pub left-none : begins ≡ true → NoArea ≡ spec.left-by clerk begins q
-  left-none e = sym (ap (spec.left-by clerk begins) is ∙ rw e refl)
+  pub left-none : begins ≡ true → NoArea ≡ spec.clerk-after clerk begins q
+  left-none e = sym (ap (spec.clerk-after clerk begins) is ∙ rw e refl)
 
-  pub left-alone : begins ≡ false → clerk ≡ spec.left-by clerk begins q
-  left-alone e = sym (ap (spec.left-by clerk begins) is ∙ rw e refl)
+  pub left-alone : begins ≡ false → clerk ≡ spec.clerk-after clerk begins q
+  left-alone e = sym (ap (spec.clerk-after clerk begins) is ∙ rw e refl)
 
-pub left-asked : (clerk : Clerk) (begins : Bool) (q : Request) → OneOf (1 ∷ 2 ∷ []) (tagOf the-type q) → clerk ≡ spec.left-by clerk begins q
+pub left-asked : (clerk : Clerk) (begins : Bool) (q : Request) → OneOf (1 ∷ 2 ∷ []) (tagOf the-type q) → clerk ≡ spec.clerk-after clerk begins q
 left-asked clerk begins (SetArea w h) k = absurd (miss (1 ∷ 2 ∷ []) 0 tt k)
 left-asked clerk begins (AskNumber i) k = refl
 left-asked clerk begins (AskSquare x y) k = refl

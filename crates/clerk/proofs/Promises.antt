@@ -13,7 +13,7 @@ use Rattle.terms.specs.declared.Area.{Area}
 use Rattle.terms.specs.Terms.{accepted}
 use Rattle.terms.proofs.Laws.{named, named-back}
 use Rattle.terms.proofs.Ones.{one-equation, by-figures}
-use Rattle.words.specs.Words.{all-digits, value-on, is-number, numeral, same-bytes}
+use Rattle.words.specs.Words.{begins, all-digits, value-on, is-number, numeral, same-bytes}
 use Rattle.lines.specs.Lines.{fields, AREA, shaped, request}
 use Rattle.clerk.specs.declared.Clerk.{Clerk}
 use Rattle.clerk.specs.declared.Clerk.the-variants.{NoArea, InForce}
@@ -60,12 +60,12 @@ module _ (line : List ℕ) where
 
   pub reply-kept : (clerk : Clerk) → spec.reply clerk (take 65 line) ≡ spec.reply clerk line
   unfolding spec.reply
-  reply-kept clerk = ap (spec.due clerk) request-kept
+  reply-kept clerk = ap (spec.reply-to clerk) request-kept
 
   pub after-kept : (clerk : Clerk) → spec.after clerk (take 65 line) ≡ spec.after clerk line
   unfolding spec.after
   after-kept clerk =
-      ap₂ (λ first q. spec.left-by clerk (same-bytes first AREA) q) (take-take 4 65 line (lit≤ tt)) request-kept
+      ap₂ (λ first q. spec.clerk-after clerk (same-bytes first AREA) q) (take-take 4 65 line (lit≤ tt)) request-kept
 
 -- Turned away: a clerk with one answer for all lines. An empty line is refusal 6, and N 1 with no area 7.
 pub repeats-one-answer : (always : spec.Said) → ((clerk : Clerk) (line : List ℕ) → always ≡ spec.reply clerk line) → ⊥
@@ -80,17 +80,17 @@ held NoArea = 0
 held (InForce area) = 1
 
 -- Turned away: a clerk that keeps the former area after a refused AREA line, here AREA 0 4.
-pub keeps-the-former : ((clerk : Clerk) (line : List ℕ) → spec.begins-area line ≡ true → clerk ≡ spec.after clerk line) → ⊥
+pub keeps-the-former : ((clerk : Clerk) (line : List ℕ) → begins line AREA ≡ true → clerk ≡ spec.after clerk line) → ⊥
 unfolding spec.after request shaped fields same-bytes numeral is-number all-digits value-on accepted
 keeps-the-former promise =
     let other : _≡_ {A = ℕ} 1 0 = ap held (promise (InForce (record { w = 3; h = 4 })) (65 ∷ 82 ∷ 69 ∷ 65 ∷ 32 ∷ 48 ∷ 32 ∷ 52 ∷ []) refl) in
     omega arith
 
 -- Turned away: a clerk that never has an area in force, and one that takes any area, 0 by 0 too.
-pub never-in-force : ((area : Area) → NoArea ≡ spec.in-force area) → ⊥
+pub never-in-force : ((area : Area) → NoArea ≡ spec.clerk-under area) → ⊥
 unfolding accepted
 never-in-force promise = let other : _≡_ {A = ℕ} 0 1 = ap held (promise (record { w = 1; h = 1 })) in omega arith
 
-pub any-area-in-force : ((area : Area) → InForce area ≡ spec.in-force area) → ⊥
+pub any-area-in-force : ((area : Area) → InForce area ≡ spec.clerk-under area) → ⊥
 unfolding accepted
 any-area-in-force promise = let other : _≡_ {A = ℕ} 1 0 = ap held (promise (record { w = 0; h = 0 })) in omega arith

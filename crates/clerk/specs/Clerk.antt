@@ -35,8 +35,8 @@ said (Replies.the-variants.Number number blocks) = says Number (number ∷ block
 said (Replies.the-variants.Refused r) = says Refused (refusal-number r ∷ [])
 
 -- What a call of the library with these figures comes to: the word with its numbers, or its refusal.
-abbrev pub told : Word → List ℕ → Figures → Said
-told word first f = cond (eqb (f .refusal) 0) (says word (first ++ f .values)) (says Refused (f .refusal ∷ []))
+abbrev pub from-call : Word → List ℕ → Figures → Said
+from-call word first f = cond (eqb (f .refusal) 0) (says word (first ++ f .values)) (says Refused (f .refusal ∷ []))
 
 -- "7: N or S line with no area in force"
 abbrev pub under : Clerk → (Area → Said) → Said
@@ -44,31 +44,28 @@ under NoArea asked = says Refused (refusal-number Refusals.the-variants.NoArea �
 under (InForce area) asked = asked area
 
 -- "For a line it is 8, 6, 5, 7, then the library's order": the first three are the request's.
-abbrev pub due : Clerk → Requests.Request → Said
-due clerk (Requests.the-variants.SetArea w h) = told Area-set (w ∷ h ∷ (w * h) ∷ []) (finish-square w h)
-due clerk (Requests.the-variants.AskNumber i) = under clerk (λ area. told Cell [] (number-to-square (area .w) (area .h) i))
-due clerk (Requests.the-variants.AskSquare x y) = under clerk (λ area. told Number [] (square-to-number (area .w) (area .h) x y))
-due clerk (Requests.the-variants.Refused r) = says Refused (refusal-number r ∷ [])
+abbrev pub reply-to : Clerk → Requests.Request → Said
+reply-to clerk (Requests.the-variants.SetArea w h) = from-call Area-set (w ∷ h ∷ (w * h) ∷ []) (finish-square w h)
+reply-to clerk (Requests.the-variants.AskNumber i) = under clerk (λ area. from-call Cell [] (number-to-square (area .w) (area .h) i))
+reply-to clerk (Requests.the-variants.AskSquare x y) = under clerk (λ area. from-call Number [] (square-to-number (area .w) (area .h) x y))
+reply-to clerk (Requests.the-variants.Refused r) = says Refused (refusal-number r ∷ [])
 
 -- The clerk with an area in force, or with none where the area is not accepted.
-abbrev pub in-force : Area → Clerk
-in-force area = cond (accepted (area .w) (area .h)) (InForce area) NoArea
-
-abbrev pub begins-area : List ℕ → Bool
-begins-area line = begins line AREA
+abbrev pub clerk-under : Area → Clerk
+clerk-under area = cond (accepted (area .w) (area .h)) (InForce area) NoArea
 
 -- The clerk after a line, by what the line asks and whether it begins with AREA.
-abbrev pub left-by : Clerk → (begins : Bool) → Requests.Request → Clerk
+abbrev pub clerk-after : Clerk → (begins : Bool) → Requests.Request → Clerk
 -- "An accepted AREA line sets the area for the lines below it." One that is refused for its area leaves none.
-left-by clerk begins (Requests.the-variants.SetArea w h) = in-force (record { w = w; h = h })
+clerk-after clerk begins (Requests.the-variants.SetArea w h) = clerk-under (record { w = w; h = h })
 -- "A refused line whose first four bytes are AREA leaves no area in force, for any reason of refusal."
-left-by clerk begins (Requests.the-variants.Refused r) = cond begins NoArea clerk
+clerk-after clerk begins (Requests.the-variants.Refused r) = cond begins NoArea clerk
 -- "No other line alters the area".
-left-by clerk begins (Requests.the-variants.AskNumber i) = clerk
-left-by clerk begins (Requests.the-variants.AskSquare x y) = clerk
+clerk-after clerk begins (Requests.the-variants.AskNumber i) = clerk
+clerk-after clerk begins (Requests.the-variants.AskSquare x y) = clerk
 
 unfoldable pub after : Clerk → List ℕ → Clerk
-after clerk line = left-by clerk (begins-area line) (request line)
+after clerk line = clerk-after clerk (begins line AREA) (request line)
 
 unfoldable pub reply : Clerk → List ℕ → Said
-reply clerk line = due clerk (request line)
+reply clerk line = reply-to clerk (request line)

@@ -8,8 +8,10 @@ use terms::Refusal;
 ghost use mathlib.Core.List.{[], _∷_};
 ghost use mathlib.Core.Path.{_≡_};
 ghost use Prim.Native.Nat.{_*_};
+ghost use Rattle.words.specs.Words.{begins};
+ghost use Rattle.lines.specs.Lines.{AREA};
 ghost use Rattle.curve.specs.Lookups.{number-to-square, square-to-number, finish-square};
-ghost use Rattle.clerk.specs.Clerk.{Area-set, Cell, Number, said, told, due, in-force, begins-area, left-by, after, reply};
+ghost use Rattle.clerk.specs.Clerk.{Area-set, Cell, Number, said, from-call, reply-to, clerk-under, clerk-after, after, reply};
 
 // The area in force, if there is one.
 pub enum Clerk {
@@ -45,8 +47,8 @@ pub struct Handled {
 }
 
 // The reply to an AREA line.
-fn area_set(w: u32, h: u32) -> Reply
-    ensures { λ r. ⌜ said r ≡ told Area-set (w ∷ h ∷ (w * h) ∷ []) (finish-square w h) ⌝ }
+fn area_reply(w: u32, h: u32) -> Reply
+    ensures { λ r. ⌜ said r ≡ from-call Area-set (w ∷ h ∷ (w * h) ∷ []) (finish-square w h) ⌝ }
 {
     match curve::finish_square(Area { w: w, h: h }) {
         FinishAnswer::Found { x, y } => Reply::AreaSet {
@@ -61,8 +63,8 @@ fn area_set(w: u32, h: u32) -> Reply
 }
 
 // The reply to an N line under an area.
-fn cell(area: Area, i: u32) -> Reply
-    ensures { λ r. ⌜ said r ≡ told Cell [] (number-to-square (area .w) (area .h) i) ⌝ }
+fn cell_reply(area: Area, i: u32) -> Reply
+    ensures { λ r. ⌜ said r ≡ from-call Cell [] (number-to-square (area .w) (area .h) i) ⌝ }
 {
     match curve::number_to_square(area, i) {
         SquareAnswer::Found { x, y, blocks } => Reply::Cell {
@@ -75,8 +77,8 @@ fn cell(area: Area, i: u32) -> Reply
 }
 
 // The reply to an S line under an area.
-fn number(area: Area, x: u32, y: u32) -> Reply
-    ensures { λ r. ⌜ said r ≡ told Number [] (square-to-number (area .w) (area .h) x y) ⌝ }
+fn number_reply(area: Area, x: u32, y: u32) -> Reply
+    ensures { λ r. ⌜ said r ≡ from-call Number [] (square-to-number (area .w) (area .h) x y) ⌝ }
 {
     match curve::square_to_number(area, x, y) {
         NumberAnswer::Found { number, blocks } => Reply::Number {
@@ -89,17 +91,17 @@ fn number(area: Area, x: u32, y: u32) -> Reply
 
 // The reply to a request: an area is asked for where the request needs one.
 fn reply_to(clerk: Clerk, asked: Request) -> Reply
-    ensures { λ r. ⌜ said r ≡ due clerk asked ⌝ }
+    ensures { λ r. ⌜ said r ≡ reply-to clerk asked ⌝ }
 {
     match asked {
-        Request::SetArea { w, h } => area_set(w, h),
+        Request::SetArea { w, h } => area_reply(w, h),
         Request::AskNumber { i } => match clerk {
             Clerk::NoArea => Reply::Refused(Refusal::NoArea),
-            Clerk::InForce(area) => cell(area, i),
+            Clerk::InForce(area) => cell_reply(area, i),
         },
         Request::AskSquare { x, y } => match clerk {
             Clerk::NoArea => Reply::Refused(Refusal::NoArea),
-            Clerk::InForce(area) => number(area, x, y),
+            Clerk::InForce(area) => number_reply(area, x, y),
         },
         Request::Refused(r) => Reply::Refused(r),
     }
@@ -107,7 +109,7 @@ fn reply_to(clerk: Clerk, asked: Request) -> Reply
 
 // The clerk with an area in force, or with none where the area is not accepted.
 pub fn clerk_under(area: Area) -> Clerk
-    ensures { λ r. ⌜ r ≡ in-force area ⌝ }
+    ensures { λ r. ⌜ r ≡ clerk-under area ⌝ }
 {
     if terms::accepts(area) {
         return Clerk::InForce(area);
@@ -117,7 +119,7 @@ pub fn clerk_under(area: Area) -> Clerk
 
 // The clerk after a line.
 fn clerk_after(clerk: Clerk, line: &[u8], asked: Request) -> Clerk
-    ensures { λ r. ⌜ r ≡ left-by clerk (begins-area (now (line .entry))) asked ⌝ }
+    ensures { λ r. ⌜ r ≡ clerk-after clerk (begins (now (line .entry)) AREA) asked ⌝ }
 {
     match asked {
         Request::SetArea { w, h } => clerk_under(Area { w: w, h: h }),

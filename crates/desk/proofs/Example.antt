@@ -17,13 +17,13 @@ use Rattle.curve.specs.Lookups.{number-to-square, square-to-number, finish-squa
 use Rattle.curve.proofs.Answers.{number-outside}
 use Rattle.curve.proofs.Promises.{number-answered, number-back}
 use Rattle.words.specs.Letters.{bytes}
-use Rattle.words.specs.Words.{all-digits, value-on, is-number, numeral, same-bytes}
+use Rattle.words.specs.Words.{begins, all-digits, value-on, is-number, numeral, same-bytes}
 use Rattle.lines.specs.Lines.{fields, AREA, shaped, request}
 use Rattle.words.specs.Decimal.{decimal-by, decimal}
 use Rattle.words.proofs.Same.{same-itself}
 use Rattle.clerk.specs.declared.Clerk.{Clerk}
 use Rattle.clerk.specs.declared.Clerk.the-variants.{NoArea, InForce}
-use Rattle.clerk.specs.Clerk.{Area-set, Cell, Number, Refused, Said, says, told, begins-area, after, reply}
+use Rattle.clerk.specs.Clerk.{Area-set, Cell, Number, Refused, Said, says, from-call, after, reply}
 use Rattle.clerk.proofs.Areas.{others-alter-nothing}
 use Rattle.replies.specs.Text.{text}
 use Rattle.desk.specs.Desk.{lines-of, answers, output}
@@ -66,11 +66,11 @@ set = refl
 
 asked-number : reply three-by-four (bytes "N 8") ≡ says Cell (2 ∷ 1 ∷ 3 ∷ [])
 unfolding three-by-four reply request shaped fields same-bytes numeral is-number all-digits value-on
-asked-number = ap (told Cell []) cell
+asked-number = ap (from-call Cell []) cell
 
 asked-square : reply three-by-four (bytes "S 2 1") ≡ says Number (8 ∷ 3 ∷ [])
 unfolding three-by-four reply request shaped fields same-bytes numeral is-number all-digits value-on
-asked-square = ap (told Number []) number
+asked-square = ap (from-call Number []) number
 
 no-number : reply three-by-four (bytes "N 3E4") ≡ says Refused (5 ∷ [])
 unfolding reply request shaped fields same-bytes numeral is-number all-digits value-on
@@ -78,13 +78,13 @@ no-number = refl
 
 too-high : reply three-by-four (bytes "N 12") ≡ says Refused (3 ∷ [])
 unfolding three-by-four reply request shaped fields same-bytes numeral is-number all-digits value-on
-too-high = ap (told Cell []) past-the-end
+too-high = ap (from-call Cell []) past-the-end
 
 sets-it : after NoArea (bytes "AREA 3 4") ≡ three-by-four
 unfolding three-by-four after request shaped fields same-bytes numeral is-number all-digits value-on accepted
 sets-it = refl
 
-keeps-it : (line : List ℕ) → begins-area line ≡ false → after three-by-four line ≡ three-by-four
+keeps-it : (line : List ℕ) → begins line AREA ≡ false → after three-by-four line ≡ three-by-four
 keeps-it line e =
     others-alter-nothing three-by-four line
     (λ begins. let z : _≡_ {A = ℕ} 0 1 = ap bit (sym e ∙ ap (λ b. same-bytes b AREA) begins ∙ same-itself AREA) in omega arith)
@@ -109,7 +109,7 @@ unfolding text decimal decimal-by
 joined = refl
 
 -- a line of the four that leave the area, answered before what is left of them
-next : (n : ℕ) (line : List ℕ) (lines : List (List ℕ)) (rest : List ℕ) → leb n 65535 ≡ true → begins-area line ≡ false
+next : (n : ℕ) (line : List ℕ) (lines : List (List ℕ)) (rest : List ℕ) → leb n 65535 ≡ true → begins line AREA ≡ false
     → reply three-by-four line ≡ said n → answers three-by-four (n + 1) lines ≡ rest → answers three-by-four n (line ∷ lines) ≡ text n (said n) ++ rest
 next n line lines rest l other r e =
     line-answered three-by-four n line lines (said n) three-by-four l r (keeps-it line other) ∙ ap (λ t. text n (said n) ++ t) e

@@ -7,7 +7,7 @@ use Rattle.terms.specs.declared.Area.{Area}
 use Rattle.terms.specs.Terms.{Figures}
 use Rattle.clerk.specs.declared.Clerk.{Clerk}
 use Rattle.clerk.specs.declared.Clerk.the-variants.{NoArea, InForce}
-use Rattle.clerk.specs.Clerk.{Word, Area-set, Cell, Number, Refused, Said, in-force, after, reply}
+use Rattle.clerk.specs.Clerk.{Word, Area-set, Cell, Number, Refused, Said, clerk-under, after, reply}
 
 -- The area in force; 0 by 0 where there is none.
 abbrev pub area-of : Clerk → Area
@@ -37,4 +37,4 @@ handled-by clerk line = handled-figures (area-of (after clerk line)) (reply cler
 
 -- The clerk begins with the caller's area in force, or with none where that area is not accepted.
 abbrev pub handled : (w h : ℕ) → List ℕ → Figures
-handled w h = handled-by (in-force (record { w = w; h = h }))
+handled w h = handled-by (clerk-under (record { w = w; h = h }))

@@ -1,13 +1,13 @@
--- `clerk::area_set` meets its contract: a found finish square says that the area is accepted.
+-- `clerk::area_reply` meets its contract: a found finish square says that the area is accepted.
 use borrow.Author.Needs.{needs}
 use mathlib.Core.Path.{sym, ap, _∙_}
 use mathlib.Core.List.{[], _∷_}
 use Prim.Native.Nat.{_*_}
 use Rattle.curve.specs.Lookups.{finish-figures}
-use Rattle.clerk.specs.Clerk.{Area-set, told}
-use Rattle.clerk.proofs.Handling.{told-refused, found-fits}
-use Rattle.clerk.proofs.area_set.Statement.{statement}
-use Rattle.clerk.proofs.area_set.Tie as tie
+use Rattle.clerk.specs.Clerk.{Area-set, from-call}
+use Rattle.clerk.proofs.Handling.{call-refused, found-fits}
+use Rattle.clerk.proofs.area_reply.Statement.{statement}
+use Rattle.clerk.proofs.area_reply.Tie as tie
 
 finish-square-requires : tie.Need-finish-square-requires
 finish-square-requires c κs = search needs
@@ -34,7 +34,7 @@ returns c =
     let start = finish-square .before in
     let w = start .args .w in
     let h = start .args .h in
-    ap (told Area-set (w ∷ h ∷ (w * h) ∷ [])) (ap finish-figures (sym (c .before .x .given .1)) ∙ finish-square .finish-square .ensures)
+    ap (from-call Area-set (w ∷ h ∷ (w * h) ∷ [])) (ap finish-figures (sym (c .before .x .given .1)) ∙ finish-square .finish-square .ensures)
 
 returns-2 : tie.Need-returns-2
 returns-2 c =
@@ -42,9 +42,9 @@ returns-2 c =
     let start = finish-square .before in
     let w = start .args .w in
     let h = start .args .h in
-    told-refused Area-set (w ∷ h ∷ (w * h) ∷ []) (c .before .r .given .0 .0) 2
-    ∙ ap (told Area-set (w ∷ h ∷ (w * h) ∷ [])) (ap finish-figures (sym (c .before .r .given .1)) ∙ finish-square .finish-square .ensures)
+    call-refused Area-set (w ∷ h ∷ (w * h) ∷ []) (c .before .r .given .0 .0) 2
+    ∙ ap (from-call Area-set (w ∷ h ∷ (w * h) ∷ [])) (ap finish-figures (sym (c .before .r .given .1)) ∙ finish-square .finish-square .ensures)
 
-pub area-set-spec : {M : Type 1} → statement M
-area-set-spec =
+pub area-reply-spec : {M : Type 1} → statement M
+area-reply-spec =
     tie.close (tie.spec finish-square-requires enum-known-x mul-t9 enum-known-r returns returns-2)

@@ -1,0 +1,30 @@
+-- `clerk::number_reply` meets its contract: the lookup's figures, from-call.
+use borrow.Author.Needs.{needs}
+use mathlib.Core.Path.{sym, ap, _∙_}
+use mathlib.Core.List.{[]}
+use Rattle.curve.specs.Lookups.{number-figures}
+use Rattle.clerk.specs.Clerk.{Number, from-call}
+use Rattle.clerk.proofs.Handling.{call-refused}
+use Rattle.clerk.proofs.number_reply.Statement.{statement}
+use Rattle.clerk.proofs.number_reply.Tie as tie
+
+square-to-number-requires : tie.Need-square-to-number-requires
+square-to-number-requires c κs = search needs
+
+enum-known-number : tie.Need-enum-known-number
+enum-known-number c = search needs
+
+enum-known-r : tie.Need-enum-known-r
+enum-known-r c = search needs
+
+returns : tie.Need-returns
+returns c = ap (from-call Number []) (ap number-figures (sym (c .before .number .given .1)) ∙ c .before .before .before .square-to-number .ensures)
+
+returns-2 : tie.Need-returns-2
+returns-2 c =
+    call-refused Number [] (c .before .r .given .0 .0) 2
+    ∙ ap (from-call Number []) (ap number-figures (sym (c .before .r .given .1)) ∙ c .before .before .before .square-to-number .ensures)
+
+pub number-reply-spec : {M : Type 1} → statement M
+number-reply-spec =
+    tie.close (tie.spec square-to-number-requires enum-known-number enum-known-r returns returns-2)
