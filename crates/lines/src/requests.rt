@@ -17,7 +17,7 @@ fn with_one(a: &[u8]) -> Request
     if a.len() < 1 {
         return Request::Refused(Refusal::WrongShape);
     }
-    match words::number(a) {
+    match words::numeral_of(a) {
         Numeral::Value(i) => Request::AskNumber { i: i },
         Numeral::NoNumber => Request::Refused(Refusal::NotANumber),
     }
@@ -33,8 +33,8 @@ fn with_two(a: &[u8], b: &[u8], sets: bool) -> Request
     if b.len() < 1 {
         return Request::Refused(Refusal::WrongShape);
     }
-    match words::number(a) {
-        Numeral::Value(x) => match words::number(b) {
+    match words::numeral_of(a) {
+        Numeral::Value(x) => match words::numeral_of(b) {
             Numeral::Value(y) => {
                 if sets {
                     return Request::SetArea { w: x, h: y };

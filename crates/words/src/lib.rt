@@ -53,7 +53,7 @@ fn begins_well(s: &[u8]) -> bool
 }
 
 // A field's number: 1 to 10 digits, no needless 0 before them, at most 4,294,967,295.
-pub fn number(s: &[u8]) -> Numeral
+pub fn numeral_of(s: &[u8]) -> Numeral
     ensures { λ r. ⌜ numeral-figures r ≡ numeral-figures (numeral (now (s .entry))) ⌝ }
 {
     if !begins_well(s) {

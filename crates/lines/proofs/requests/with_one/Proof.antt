@@ -10,8 +10,8 @@ use Rattle.lines.proofs.requests.with_one.Tie as tie
 returns : tie.Need-returns
 returns c = one-empty (λ i. AskNumber i) (c .before .before .args .a .now) (c .if1 .taken)
 
-number-requires : tie.Need-number-requires
-number-requires c κs = search needs
+numeral-of-requires : tie.Need-numeral-of-requires
+numeral-of-requires c κs = search needs
 
 enum-known-i : tie.Need-enum-known-i
 enum-known-i c = search needs
@@ -24,15 +24,15 @@ returns-2 c =
     let number = c .before .before .before in
     let first-test = number .before in
     let start = first-test .before .before in
-    one-there (λ i. AskNumber i) (start .args .a .now) (first-test .if1 .left) _ (sym (c .before .i .given .1) ∙ numeral-one _ _ (number .number .ensures) refl)
+    one-there (λ i. AskNumber i) (start .args .a .now) (first-test .if1 .left) _ (sym (c .before .i .given .1) ∙ numeral-one _ _ (number .numeral-of .ensures) refl)
 
 returns-3 : tie.Need-returns-3
 returns-3 c =
     let number = c .before .before in
     let first-test = number .before in
     let start = first-test .before .before in
-    one-there (λ i. AskNumber i) (start .args .a .now) (first-test .if1 .left) _ (sym (c .enum-told .given .1) ∙ numeral-one _ _ (number .number .ensures) refl)
+    one-there (λ i. AskNumber i) (start .args .a .now) (first-test .if1 .left) _ (sym (c .enum-told .given .1) ∙ numeral-one _ _ (number .numeral-of .ensures) refl)
 
 pub with-one-spec : {M : Type 1} → statement M
 with-one-spec =
-    tie.close (tie.spec returns number-requires enum-known-i enum-told returns-2 returns-3)
+    tie.close (tie.spec returns numeral-of-requires enum-known-i enum-told returns-2 returns-3)

@@ -18,14 +18,14 @@ returns-2 c =
     let start = c .before .before .before .before in
     second-empty (cond (start .args .sets) (λ w h. SetArea w h) (λ x y. AskSquare x y)) (start .args .a .now) (start .args .b .now) (c .if2 .taken)
 
-number-requires : tie.Need-number-requires
-number-requires c κs = search needs
+numeral-of-requires : tie.Need-numeral-of-requires
+numeral-of-requires c κs = search needs
 
 enum-known-x : tie.Need-enum-known-x
 enum-known-x c = search needs
 
-number-requires-2 : tie.Need-number-requires-2
-number-requires-2 c κs = search needs
+numeral-of-requires-2 : tie.Need-numeral-of-requires-2
+numeral-of-requires-2 c κs = search needs
 
 enum-known-y : tie.Need-enum-known-y
 enum-known-y c = search needs
@@ -41,8 +41,8 @@ returns-3 c =
     let start = first-test .before .before .before in
     sym (rw (c .if3 .taken))
     ∙ two-there (cond (start .args .sets) (λ w h. SetArea w h) (λ x y. AskSquare x y)) (start .args .a .now) (start .args .b .now) (first-test .if1 .left)
-    (second-test .if2 .left) _ _ (sym (at-x .x .given .1) ∙ numeral-one _ _ (number .number .ensures) refl)
-    (sym (at-y .y .given .1) ∙ numeral-one _ _ (number2 .number2 .ensures) refl)
+    (second-test .if2 .left) _ _ (sym (at-x .x .given .1) ∙ numeral-one _ _ (number .numeral-of .ensures) refl)
+    (sym (at-y .y .given .1) ∙ numeral-one _ _ (number2 .numeral-of2 .ensures) refl)
 
 enum-told : tie.Need-enum-told
 enum-told c = search needs
@@ -61,8 +61,8 @@ returns-4 c =
     let start = first-test .before .before .before in
     sym (rw (c .if3 .left))
     ∙ two-there (cond (start .args .sets) (λ w h. SetArea w h) (λ x y. AskSquare x y)) (start .args .a .now) (start .args .b .now) (first-test .if1 .left)
-    (second-test .if2 .left) _ _ (sym (at-x .x .given .1) ∙ numeral-one _ _ (number .number .ensures) refl)
-    (sym (at-y .y .given .1) ∙ numeral-one _ _ (number2 .number2 .ensures) refl)
+    (second-test .if2 .left) _ _ (sym (at-x .x .given .1) ∙ numeral-one _ _ (number .numeral-of .ensures) refl)
+    (sym (at-y .y .given .1) ∙ numeral-one _ _ (number2 .numeral-of2 .ensures) refl)
 
 returns-5 : tie.Need-returns-5
 returns-5 c =
@@ -73,8 +73,8 @@ returns-5 c =
     let first-test = second-test .before in
     let start = first-test .before .before .before in
     two-there (cond (start .args .sets) (λ w h. SetArea w h) (λ x y. AskSquare x y)) (start .args .a .now) (start .args .b .now) (first-test .if1 .left)
-    (second-test .if2 .left) _ _ (sym (at-x .x .given .1) ∙ numeral-one _ _ (number .number .ensures) refl)
-    (sym (c .enum-told .given .1) ∙ numeral-one _ _ (number2 .number2 .ensures) refl)
+    (second-test .if2 .left) _ _ (sym (at-x .x .given .1) ∙ numeral-one _ _ (number .numeral-of .ensures) refl)
+    (sym (c .enum-told .given .1) ∙ numeral-one _ _ (number2 .numeral-of2 .ensures) refl)
 
 returns-6 : tie.Need-returns-6
 returns-6 c =
@@ -83,7 +83,7 @@ returns-6 c =
     let first-test = second-test .before in
     let start = first-test .before .before .before in
     two-there (cond (start .args .sets) (λ w h. SetArea w h) (λ x y. AskSquare x y)) (start .args .a .now) (start .args .b .now) (first-test .if1 .left)
-    (second-test .if2 .left) _ _ (sym (c .enum-told2 .given .1) ∙ numeral-one _ _ (number .number .ensures) refl) refl
+    (second-test .if2 .left) _ _ (sym (c .enum-told2 .given .1) ∙ numeral-one _ _ (number .numeral-of .ensures) refl) refl
 
 pub with-two-spec : {M : Type 1} → statement M
 with-two-spec =
@@ -91,9 +91,9 @@ with-two-spec =
     (tie.spec
     returns
     returns-2
-    number-requires
+    numeral-of-requires
     enum-known-x
-    number-requires-2
+    numeral-of-requires-2
     enum-known-y
     returns-3
     enum-told

@@ -1,12 +1,12 @@
--- `words::number` meets its contract: each test that fails leaves no number, and where none fails the digits' value is the field's.
+-- `words::numeral_of` meets its contract: each test that fails leaves no number, and where none fails the digits' value is the field's.
 use borrow.Author.Needs.{needs}
 use mathlib.Core.Path.{sym, ap, _∙_}
 use borrow.Author.Tests.{not-true, not-false}
 use native.Mathlib.Omega.{arith}
 use Rattle.words.specs.Words.{numeral-figures}
 use Rattle.words.proofs.Numerals.{ill-begun, too-long, too-large, a-number}
-use Rattle.words.proofs.number.Statement.{statement}
-use Rattle.words.proofs.number.Tie as tie
+use Rattle.words.proofs.numeral_of.Statement.{statement}
+use Rattle.words.proofs.numeral_of.Tie as tie
 
 begins-well-requires : tie.Need-begins-well-requires
 begins-well-requires c κs = search needs
@@ -34,8 +34,8 @@ returns-4 c =
     (a-number _ _ (c .before .digits-value .ensures) (sym (first-test .before .begins-well .ensures) ∙ not-false _ (first-test .if1 .left))
     (second-test .if2 .left) (c .if3 .left))
 
-pub number-spec : {M : Type 1} → statement M
-number-spec =
+pub numeral-of-spec : {M : Type 1} → statement M
+numeral-of-spec =
     tie.close
     (tie.spec
     begins-well-requires
