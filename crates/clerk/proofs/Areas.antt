@@ -22,7 +22,7 @@ use Rattle.lines.proofs.Asking.{with-one, with-two, Says, says-so, area-spelt}
 use Rattle.clerk.specs.declared.Clerk.{Clerk}
 use Rattle.clerk.specs.declared.Clerk.the-variants.{NoArea, InForce}
 use Rattle.clerk.specs.Clerk as spec
-use Rattle.clerk.proofs.Handling.{value, word-mark, mark, call-refused}
+use Rattle.clerk.proofs.Handling.{nth-number, word-mark, mark, call-refused}
 
 -- a reply with another word than AREA
 call-other : (word : spec.Word) (first : List ℕ) (f : Figures) (b : Bool) → 1 ≤ word-mark word
@@ -48,7 +48,7 @@ module _ (v u w h : ℕ) (rest : List ℕ) (e : to-area v u ≡ spec.says spec.A
   unfolding finish-square
   set-by true ok =
       let is : to-area v u ≡ spec.says spec.Area-set (v ∷ u ∷ (v * u) ∷ finish-square v u .values) = rw ok refl in
-      rw ok (λ i. InForce (record { w = value 0 ((sym is ∙ e) i); h = value 1 ((sym is ∙ e) i) }))
+      rw ok (λ i. InForce (record { w = nth-number 0 ((sym is ∙ e) i); h = nth-number 1 ((sym is ∙ e) i) }))
   set-by false bad =
       let is : mark (to-area v u) ≡ 3 = ap mark (to-no-area v u bad) in
       let other : mark (to-area v u) ≡ 0 = ap mark e in

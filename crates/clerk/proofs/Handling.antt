@@ -20,8 +20,8 @@ use Rattle.clerk.specs.declared.Clerk.the-variants.{NoArea}
 use Rattle.clerk.specs.Clerk as spec
 
 -- for telling two replies apart: the i-th number, and the word as a number
-abbrev pub value : ℕ → spec.Said → ℕ
-value i s = getD (s .numbers) i 0
+abbrev pub nth-number : ℕ → spec.Said → ℕ
+nth-number i s = getD (s .numbers) i 0
 
 abbrev pub word-mark : spec.Word → ℕ
 word-mark spec.Area-set = 0

@@ -21,12 +21,12 @@ use Rattle.clerk.specs.declared.Handled.{Handled}
 use Rattle.clerk.specs.declared.Reply.{Reply}
 use Rattle.clerk.specs.declared.Reply.the-variants.{AreaSet, Cell, Number, Refused}
 use Rattle.clerk.specs.Clerk as spec
-use Rattle.clerk.proofs.Handling.{value, mark}
+use Rattle.clerk.proofs.Handling.{nth-number, mark}
 
 -- the reply of what is said
 of-said : spec.Said → Reply
 of-said s =
-    let v : ℕ → ℕ = λ i. value i s in
+    let v : ℕ → ℕ = λ i. nth-number i s in
     cond (eqb (mark s) 0) (AreaSet (v 0) (v 1) (v 2) (v 3) (v 4))
     (cond (eqb (mark s) 1) (Cell (v 0) (v 1) (v 2)) (cond (eqb (mark s) 2) (Number (v 0) (v 1)) (Refused (named (v 0)))))
 
@@ -71,8 +71,8 @@ module _ (line : List ℕ) where
 pub repeats-one-answer : (always : spec.Said) → ((clerk : Clerk) (line : List ℕ) → always ≡ spec.reply clerk line) → ⊥
 unfolding spec.reply request shaped fields same-bytes numeral is-number all-digits value-on
 repeats-one-answer always promise =
-    let six : value 0 always ≡ 6 = ap (value 0) (promise NoArea []) in
-    let seven : value 0 always ≡ 7 = ap (value 0) (promise NoArea (78 ∷ 32 ∷ 49 ∷ [])) in
+    let six : nth-number 0 always ≡ 6 = ap (nth-number 0) (promise NoArea []) in
+    let seven : nth-number 0 always ≡ 7 = ap (nth-number 0) (promise NoArea (78 ∷ 32 ∷ 49 ∷ [])) in
     omega arith
 
 abbrev held : Clerk → ℕ

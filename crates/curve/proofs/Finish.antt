@@ -14,7 +14,7 @@ use Rattle.division.specs.Division.Inside.{Sized}
 use Rattle.division.proofs.Rules.{All, Chosen, is-run, is-side, is-long, is-u, chosen, halves, parts-are}
 use Rattle.division.proofs.Cases.{induction}
 use Rattle.division.proofs.Cuts.{long-areas, u-areas}
-use Rattle.division.proofs.Local.{inner, squares-of}
+use Rattle.division.proofs.Local.{seen-from, squares-of}
 use Rattle.division.proofs.Squares.{area-at-part, area-run-at, area-side-at}
 use Rattle.division.proofs.Walks.{half-small, half-large}
 
@@ -103,7 +103,7 @@ last-of before part all sum some = omega arith
 
 module _ (k : Block) (h : Sized k) (x y : ℕ) (ends : Ends (k .a) (k .b) x y) (below : All Last (parts k)) where
   last-by : Chosen (k .a) (k .b) → square-of (whole (k .a) (k .b)) (k .a * k .b - 1) ≡ square x y
-  unfolding squares-of part parts-of inner whole
+  unfolding squares-of part parts-of seen-from whole
   last-by (is-run c one) =
       let last = run-last (k .a) (k .b) x y one ends in
       area-run-at (k .a) (k .b) (h .run) (h .side) (k .a * k .b - 1) c (rw one (omega arith)) ∙ ap₂ square (omega arith) (sym (last .1))
@@ -120,7 +120,7 @@ module _ (k : Block) (h : Sized k) (x y : ℕ) (ends : Ends (k .a) (k .b) x y) (
       let sum = long-areas e (k .a) (k .b) (omega arith) in
       ap (square-of (whole (k .a) (k .b))) (last-of (e * k .b + 0) n (k .a * k .b) (omega arith) some)
       ∙ area-at-part (k .a) (k .b) (h .run) (h .side) (First ∷ []) Second [] (ap parts-of c) (n - 1) (omega arith)
-      ∙ ap (inner Second (k .a) (k .b)) there
+      ∙ ap (seen-from Second (k .a) (k .b)) there
       ∙ ap (λ u. square u y) (add-sub-of-le (second-behind (k .a) (k .b) x y lb l ends))
   last-by (is-u c la lb l) =
       let half = halves (k .b) lb in
@@ -133,7 +133,7 @@ module _ (k : Block) (h : Sized k) (x y : ℕ) (ends : Ends (k .a) (k .b) x y) (
       let sum = u-areas e (k .a / 2) (k .a) (k .b) (omega arith) (omega arith) in
       ap (square-of (whole (k .a) (k .b))) (last-of (e * (k .a / 2) + (k .a * (k .b - e) + 0)) n (k .a * k .b) (omega arith) some)
       ∙ area-at-part (k .a) (k .b) (h .run) (h .side) (A ∷ B ∷ []) C [] (ap parts-of c) (n - 1) (omega arith)
-      ∙ ap (inner C (k .a) (k .b)) there
+      ∙ ap (seen-from C (k .a) (k .b)) there
       ∙ ap₂ square (omega arith) (omega arith)
 
 -- The curve of an area ends at the square that its lengths say.

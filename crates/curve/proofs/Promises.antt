@@ -9,7 +9,7 @@ use borrow.Author.Tests.{lt-ltb, le-leb, ltb-true, ltb-false}
 use lib.Dec.{ltb, eqb, lit<, lit≤}
 use Rattle.terms.specs.declared.Refusal.{Refusal}
 use Rattle.terms.specs.Terms.{accepted, area-refusal, Figures, answered, refused}
-use Rattle.terms.proofs.Laws.{limits, named, named-back, refusal-some, refusal-not-0, value}
+use Rattle.terms.proofs.Laws.{limits, named, named-back, refusal-some, refusal-not-0, figure}
 use Rattle.terms.proofs.Ones.{by-figures}
 use Rattle.division.specs.declared.Choice.the-variants.{UCut}
 use Rattle.division.specs.Division.{Square, square, whole, choice, parts-of, square-of, number-of, blocks-holding}
@@ -76,13 +76,13 @@ number-back w h n x y k e =
     let all = limits w h (was .0) in
     let s = square-of (whole w h) n in
     let is = sym e ∙ number-answered w h (was .0) n (was .1) in
-    let there : square x y ≡ s = ap₂ square (ap (value 0) is) (ap (value 1) is) in
+    let there : square x y ≡ s = ap₂ square (ap (figure 0) is) (ap (figure 1) is) in
     let inside = whole-inside w h (all .w-least) (all .h-least) in
     let within = whole-within w h s (square-held w h (whole w h) inside n (was .1)) in
-    square-answered w h (was .0) x y (subst⁻¹ (λ (m : ℕ). m < w) (ap (value 0) is) (within .run)) (subst⁻¹ (λ (m : ℕ). m < h) (ap (value 1) is) (within .side))
+    square-answered w h (was .0) x y (subst⁻¹ (λ (m : ℕ). m < w) (ap (figure 0) is) (within .run)) (subst⁻¹ (λ (m : ℕ). m < h) (ap (figure 1) is) (within .side))
     ∙ ap₂ (λ a b. answered (a ∷ b ∷ []))
     (ap (number-of (whole w h)) there ∙ number-of-square w h (whole w h) inside n (was .1))
-    (ap (blocks-holding (whole w h)) there ∙ sym (ap (value 2) is))
+    (ap (blocks-holding (whole w h)) there ∙ sym (ap (figure 2) is))
 
 pub square-back : (w h x y n k : ℕ) → square-to-number w h x y ≡ answered (n ∷ k ∷ []) → number-to-square w h n ≡ answered (x ∷ y ∷ k ∷ [])
 unfolding whole
@@ -92,17 +92,17 @@ square-back w h x y n k e =
     let is = sym e ∙ square-answered w h (was .0) x y (was .1) (was .2) in
     let held = whole-holds w h (square x y) (record { run = was .1; side = was .2 }) in
     let inside = whole-inside w h (all .w-least) (all .h-least) in
-    let there : square-of (whole w h) n ≡ square x y = ap (square-of (whole w h)) (ap (value 0) is)
+    let there : square-of (whole w h) n ≡ square x y = ap (square-of (whole w h)) (ap (figure 0) is)
     ∙ square-of-number w h (whole w h) inside (square x y) held in
-    number-answered w h (was .0) n (subst⁻¹ (λ (m : ℕ). m < w * h) (ap (value 0) is) (number-below w h (whole w h) inside (square x y) held))
+    number-answered w h (was .0) n (subst⁻¹ (λ (m : ℕ). m < w * h) (ap (figure 0) is) (number-below w h (whole w h) inside (square x y) held))
     ∙ ap (λ (s : Square). answered (s .x ∷ s .y ∷ blocks-holding (whole w h) s ∷ [])) there
-    ∙ ap (λ b. answered (x ∷ y ∷ b ∷ [])) (sym (ap (value 1) is))
+    ∙ ap (λ b. answered (x ∷ y ∷ b ∷ [])) (sym (ap (figure 1) is))
 
 -- The count of an answered lookup is the division's own, and meets demand 3.
 pub square-count-is : (w h x y n k : ℕ) → square-to-number w h x y ≡ answered (n ∷ k ∷ []) → k ≡ blocks-holding (whole w h) (square x y)
 square-count-is w h x y n k e =
     let was = square-asked w h x y (n ∷ k ∷ []) e in
-    ap (value 1) (sym e ∙ square-answered w h (was .0) x y (was .1) (was .2))
+    ap (figure 1) (sym e ∙ square-answered w h (was .0) x y (was .1) (was .2))
 
 pub count-is : (w h n x y k : ℕ) → number-to-square w h n ≡ answered (x ∷ y ∷ k ∷ []) → k ≡ blocks-holding (whole w h) (square x y)
 count-is w h n x y k e = square-count-is w h x y n k (number-back w h n x y k e)
@@ -120,7 +120,7 @@ square-count-bound w h x y n k e l = count-bound w h n x y k (square-back w h x 
 -- Two answers that meet a promise are one: an answer can be told from its figures.
 square-from : Figures → SquareAnswers.SquareAnswer
 square-from f =
-    cond (eqb (f .refusal) 0) (SquareAnswers.the-variants.Found (value 0 f) (value 1 f) (value 2 f)) (SquareAnswers.the-variants.Refused (named (f .refusal)))
+    cond (eqb (f .refusal) 0) (SquareAnswers.the-variants.Found (figure 0 f) (figure 1 f) (figure 2 f)) (SquareAnswers.the-variants.Refused (named (f .refusal)))
 
 square-told : (r : SquareAnswers.SquareAnswer) → square-from (square-figures r) ≡ r
 unfolding square-from
@@ -131,7 +131,7 @@ pub square-one : (r s : SquareAnswers.SquareAnswer) {f : Figures} → square-fig
 square-one = by-figures square-figures square-from square-told
 
 number-from : Figures → NumberAnswers.NumberAnswer
-number-from f = cond (eqb (f .refusal) 0) (NumberAnswers.the-variants.Found (value 0 f) (value 1 f)) (NumberAnswers.the-variants.Refused (named (f .refusal)))
+number-from f = cond (eqb (f .refusal) 0) (NumberAnswers.the-variants.Found (figure 0 f) (figure 1 f)) (NumberAnswers.the-variants.Refused (named (f .refusal)))
 
 number-told : (r : NumberAnswers.NumberAnswer) → number-from (number-figures r) ≡ r
 unfolding number-from
@@ -142,7 +142,7 @@ pub number-one : (r s : NumberAnswers.NumberAnswer) {f : Figures} → number-fig
 number-one = by-figures number-figures number-from number-told
 
 finish-from : Figures → FinishAnswers.FinishAnswer
-finish-from f = cond (eqb (f .refusal) 0) (FinishAnswers.the-variants.Found (value 0 f) (value 1 f)) (FinishAnswers.the-variants.Refused (named (f .refusal)))
+finish-from f = cond (eqb (f .refusal) 0) (FinishAnswers.the-variants.Found (figure 0 f) (figure 1 f)) (FinishAnswers.the-variants.Refused (named (f .refusal)))
 
 finish-told : (r : FinishAnswers.FinishAnswer) → finish-from (finish-figures r) ≡ r
 unfolding finish-from
@@ -187,7 +187,7 @@ module _ (f : ℕ → ℕ → ℕ → SquareAnswers.SquareAnswer) (promise : (w 
       let b = all 2 1 1 two-squares (lit< tt) in
       let first = number-back 2 1 0 x y (a .0) (sym (promise 2 1 0) ∙ ap square-figures (a .1)) in
       let second = number-back 2 1 1 x y (b .0) (sym (promise 2 1 1) ∙ ap square-figures (b .1)) in
-      omega (arith, ap (value 0) (sym first ∙ second))
+      omega (arith, ap (figure 0) (sym first ∙ second))
 
   -- one whose count is made up: 1 for every square is within demand 3's bound, and is not the division's own count
   pub made-up-count : ((w h n : ℕ) → accepted w h ≡ true → n < w * h → (x : ℕ) × (y : ℕ) × (f w h n ≡ SquareAnswers.the-variants.Found x y 1)) → ⊥
@@ -209,7 +209,7 @@ module _ (g : ℕ → ℕ → ℕ → ℕ → NumberAnswers.NumberAnswer) (promi
       let b = all 2 1 1 0 two-squares (lit< tt) (lit< tt) in
       let first = square-back 2 1 0 0 n (a .0) (sym (promise 2 1 0 0) ∙ ap number-figures (a .1)) in
       let second = square-back 2 1 1 0 n (b .0) (sym (promise 2 1 1 0) ∙ ap number-figures (b .1)) in
-      omega (arith, ap (value 0) (sym first ∙ second))
+      omega (arith, ap (figure 0) (sym first ∙ second))
 
   pub made-up-square-count : ((w h x y : ℕ) → accepted w h ≡ true → x < w → y < h → (n : ℕ) × (g w h x y ≡ NumberAnswers.the-variants.Found n 1)) → ⊥
   made-up-square-count all =

@@ -36,12 +36,12 @@ pub record Within (a b : ℕ) (s : Square) : Type 0 where
   pub side : s .y < b
 
 -- where a part's (u, v) lies in an a by b block
-unfoldable pub inner : Part → ℕ → ℕ → Square → Square
-inner First a b s = s
-inner Second a b s = square (even-half a + s .x) (s .y)
-inner A a b s = square (s .y) (s .x)
-inner B a b s = square (s .x) (even-half b + s .y)
-inner C a b s = square (a - 1 - s .y) (even-half b - 1 - s .x)
+unfoldable pub seen-from : Part → ℕ → ℕ → Square → Square
+seen-from First a b s = s
+seen-from Second a b s = square (even-half a + s .x) (s .y)
+seen-from A a b s = square (s .y) (s .x)
+seen-from B a b s = square (s .x) (even-half b + s .y)
+seen-from C a b s = square (a - 1 - s .y) (even-half b - 1 - s .x)
 
 pub spot-whole : (a b : ℕ) (s : Square) → spot (whole a b) s ≡ s
 unfolding spot whole moved
@@ -61,9 +61,9 @@ module _ (w h : ℕ) (k : Block) (i : Inside w h k) where
       ∙ within-moved w h (k .side) (k .b) (s .y) (k .start) (i .side) (l .side) in
       rw (along, across)
 
-  -- a part's (u, v) is the block's `inner` of it
-  pub spot-part : (p : Part) (s : Square) → 2 ≤ k .b → Within (part p k .a) (part p k .b) s → spot (part p k) s ≡ spot k (inner p (k .a) (k .b) s)
-  unfolding spot part inner
+  -- a part's (u, v) is the block's `seen-from` of it
+  pub spot-part : (p : Part) (s : Square) → 2 ≤ k .b → Within (part p k .a) (part p k .b) s → spot (part p k) s ≡ spot k (seen-from p (k .a) (k .b) s)
+  unfolding spot part seen-from
   spot-part First s b l = refl
   spot-part Second s b l = ap (moved (k .side) (s .y)) (moved-add (k .run) (even-half (k .a)) (s .x) (k .start))
   spot-part A s b l = moved-swap (i .paired) (s .y) (s .x) (k .start)
@@ -101,16 +101,16 @@ pub record Lies (a b : ℕ) (s : Square) : Type 0 where
   pub are : parts-of (choice a b) ≡ before ++ (name ∷ after)
   pub there : Square
   pub within : Within (part name (whole a b) .a) (part name (whole a b) .b) there
-  pub back : inner name a b there ≡ s
+  pub back : seen-from name a b there ≡ s
 
 module _ (a b : ℕ) (s : Square) where
   abbrev pub in-first : choice a b ≡ LongCut → s .x < even-half a → s .y < b → Lies a b s
-  unfolding part parts-of inner whole
+  unfolding part parts-of seen-from whole
   in-first c l m =
       record { name = First; before = []; after = Second ∷ []; are = ap parts-of c; there = s; within = record { run = l; side = m }; back = refl }
 
   abbrev pub in-second : choice a b ≡ LongCut → even-half a ≤ s .x → s .x < a → s .y < b → Lies a b s
-  unfolding part parts-of inner whole
+  unfolding part parts-of seen-from whole
   in-second c l r m =
       record {
         name = Second;
@@ -123,7 +123,7 @@ module _ (a b : ℕ) (s : Square) where
       }
 
   abbrev pub in-a : choice a b ≡ UCut → s .x < a / 2 → s .y < even-half b → Lies a b s
-  unfolding part parts-of inner whole
+  unfolding part parts-of seen-from whole
   in-a c l m =
       record {
         name = A;
@@ -136,7 +136,7 @@ module _ (a b : ℕ) (s : Square) where
       }
 
   abbrev pub in-b : choice a b ≡ UCut → s .x < a → even-half b ≤ s .y → s .y < b → Lies a b s
-  unfolding part parts-of inner whole
+  unfolding part parts-of seen-from whole
   in-b c l m r =
       record {
         name = B;
@@ -149,7 +149,7 @@ module _ (a b : ℕ) (s : Square) where
       }
 
   abbrev pub in-c : choice a b ≡ UCut → a / 2 ≤ s .x → s .x < a → s .y < even-half b → Lies a b s
-  unfolding part parts-of inner whole
+  unfolding part parts-of seen-from whole
   in-c c l r m =
       record {
         name = C;

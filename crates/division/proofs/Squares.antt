@@ -1,5 +1,5 @@
 -- The square of a number, from that of a part: the n-th square of a part has the block's number n after those of the parts before it. Local form: the
--- part's own area, each (u, v) of it carried into the block's by `inner`, which undoes `entered`.
+-- part's own area, each (u, v) of it carried into the block's by `seen-from`, which undoes `seen-in`.
 use mathlib.Core.List.{List, _∷_, _++_, map}
 use mathlib.Core.Path.{_≡_, refl, sym, ap, _∙_}
 use Prim.Native.Nat.{ℕ, _+_, _-_, _/_, _≤_, _<_}
@@ -8,13 +8,13 @@ use native.Mathlib.Omega.{arith}
 use Rattle.division.specs.declared.Choice.the-variants.{StraightRun, StraightSide}
 use Rattle.division.specs.Division.{Square, square, moved, Block, whole, choice, even-half, Part, First, Second, A, B, C, part, parts-of, square-of}
 use Rattle.division.specs.Division.Inside.{Sized, Inside}
-use Rattle.division.specs.Forms.{entered}
+use Rattle.division.specs.Forms.{seen-in}
 use Rattle.division.proofs.Cases.{Cut, in-two, in-three, rule}
 use Rattle.division.proofs.Cuts.{area}
 use Rattle.division.proofs.Once.{square-held}
 use Rattle.division.proofs.Blocks.{whole-inside}
 use Rattle.division.proofs.Descent.{the-cut, in-part, part-inside, run-square, side-square}
-use Rattle.division.proofs.Local.{spot, spot-whole, spot-part, Within, inner, named-parts, squares-of, squares-in, whole-within, square-alike}
+use Rattle.division.proofs.Local.{spot, spot-whole, spot-part, Within, seen-from, named-parts, squares-of, squares-in, whole-within, square-alike}
 
 cut-side : (k : Block) → Cut k → 2 ≤ k .b
 cut-side k (in-two a b e) = b
@@ -33,7 +33,7 @@ module _ (k : Block) (z : Sized k) (before : List Part) (p : Part) (after : List
 -- and where the block lies within an area: the part's own area, put where the part has it
 pub spot-at-part : (w h : ℕ) (k : Block) → Inside w h k → (before : List Part) (p : Part) (after : List Part)
     → parts-of (choice (k .a) (k .b)) ≡ before ++ (p ∷ after) → (n : ℕ) → n < area (part p k)
-    → square-of k (squares-of (k .a) (k .b) before + n) ≡ spot k (inner p (k .a) (k .b) (square-of (whole (part p k .a) (part p k .b)) n))
+    → square-of k (squares-of (k .a) (k .b) before + n) ≡ spot k (seen-from p (k .a) (k .b) (square-of (whole (part p k .a) (part p k .b)) n))
 unfolding whole
 spot-at-part w h k i before p after e n l =
     let q = part p k in
@@ -47,11 +47,11 @@ spot-at-part w h k i before p after e n l =
 
 pub area-at-part : (a b : ℕ) → 1 ≤ a → 1 ≤ b → (before : List Part) (p : Part) (after : List Part) → parts-of (choice a b) ≡ before ++ (p ∷ after)
     → (n : ℕ) → n < area (part p (whole a b))
-    → square-of (whole a b) (squares-of a b before + n) ≡ inner p a b (square-of (whole (part p (whole a b) .a) (part p (whole a b) .b)) n)
+    → square-of (whole a b) (squares-of a b before + n) ≡ seen-from p a b (square-of (whole (part p (whole a b) .a) (part p (whole a b) .b)) n)
 unfolding whole
 area-at-part a b la lb before p after e n l =
     spot-at-part a b (whole a b) (whole-inside a b la lb) before p after e n l
-    ∙ spot-whole a b (inner p a b (square-of (whole (part p (whole a b) .a) (part p (whole a b) .b)) n))
+    ∙ spot-whole a b (seen-from p a b (square-of (whole (part p (whole a b) .a) (part p (whole a b) .b)) n))
 
 -- so far along a straight area
 module _ (a b : ℕ) (la : 1 ≤ a) (lb : 1 ≤ b) (n : ℕ) where
@@ -63,11 +63,11 @@ module _ (a b : ℕ) (la : 1 ≤ a) (lb : 1 ≤ b) (n : ℕ) where
   unfolding whole moved
   area-side-at c l = side-square (whole a b) (rule (whole a b) StraightSide (record { run = la; side = lb }) c .0) n l ∙ ap (square 0) (zero-add n)
 
--- `inner` is the way back from `entered`
+-- `seen-from` is the way back from `seen-in`
 pub entered-inner : (a b : ℕ) (p : Part) (s : Square) → Within (part p (whole a b) .a) (part p (whole a b) .b) s
-    → entered p (record { a = a; b = b; u = inner p a b s .x; v = inner p a b s .y })
+    → seen-in p (record { a = a; b = b; u = seen-from p a b s .x; v = seen-from p a b s .y })
     ≡ record { a = part p (whole a b) .a; b = part p (whole a b) .b; u = s .x; v = s .y }
-unfolding part inner whole
+unfolding part seen-from whole
 entered-inner a b First s l = refl
 entered-inner a b Second s l = λ i. record { a = a - even-half a; b = b; u = add-sub-cancel-left (even-half a) (s .x) i; v = s .y }
 entered-inner a b A s l = refl

@@ -12,7 +12,7 @@ use Rattle.division.specs.declared.Spot.{Spot}
 use Rattle.division.specs.Division.{Square, square, Direction, +x, +y, -x, -y, Block, even-half, First, Second, A, B, C, part, moved, against}
 use Rattle.division.specs.Division.Inside.{Room, Inside}
 use Rattle.division.proofs.Rules.{halves}
-use Rattle.division.specs.Forms.{direction, block, block-at, stepped-to, Steps, entered}
+use Rattle.division.specs.Forms.{direction, block, block-at, stepped-to, Steps, seen-in}
 use Rattle.division.proofs.Cuts.{u-areas}
 
 -- the even half of a small length, and of a large one
@@ -116,12 +116,12 @@ c-block k e up last p q r =
 long-spot-by : (s : Spot) (first : Bool)
     → _≡_ {A = Spot}
     (record { a = cond first (even-half (s .a)) (s .a - even-half (s .a)); b = s .b; u = s .u - cond first 0 (even-half (s .a)); v = s .v })
-    (entered (cond first First Second) s)
+    (seen-in (cond first First Second) s)
 long-spot-by s true = rw sub-zero
 long-spot-by s false = refl
 
 pub long-spot : (s : Spot) (e run skip : ℕ) → e ≡ even-half (s .a) → run ≡ cond (ltb (s .u) e) e (s .a - e) → skip ≡ cond (ltb (s .u) e) 0 e
-    → _≡_ {A = Spot} (record { a = run; b = s .b; u = s .u - skip; v = s .v }) (entered (cond (ltb (s .u) (even-half (s .a))) First Second) s)
+    → _≡_ {A = Spot} (record { a = run; b = s .b; u = s .u - skip; v = s .v }) (seen-in (cond (ltb (s .u) (even-half (s .a))) First Second) s)
 long-spot s e run skip p q r =
     (λ i. record { a = (q ∙ ap (λ n. cond (ltb (s .u) n) n (s .a - n)) p) i; b = s .b; u = s .u - (r ∙ ap (λ n. cond (ltb (s .u) n) 0 n) p) i; v = s .v })
     ∙ long-spot-by s (ltb (s .u) (even-half (s .a)))

@@ -37,9 +37,9 @@ Steps at n true = n ≤ at
 Steps at n false = at + n ≤ 65535
 
 -- A block's square at (u, v) as one of its parts has it.
-abbrev pub entered : Part → Spot → Spot
-entered First s = record { a = even-half (s .a); b = s .b; u = s .u; v = s .v }
-entered Second s = record { a = s .a - even-half (s .a); b = s .b; u = s .u - even-half (s .a); v = s .v }
-entered A s = record { a = even-half (s .b); b = s .a / 2; u = s .v; v = s .u }
-entered B s = record { a = s .a; b = s .b - even-half (s .b); u = s .u; v = s .v - even-half (s .b) }
-entered C s = record { a = even-half (s .b); b = s .a - s .a / 2; u = even-half (s .b) - 1 - s .v; v = s .a - 1 - s .u }
+abbrev pub seen-in : Part → Spot → Spot
+seen-in First s = record { a = even-half (s .a); b = s .b; u = s .u; v = s .v }
+seen-in Second s = record { a = s .a - even-half (s .a); b = s .b; u = s .u - even-half (s .a); v = s .v }
+seen-in A s = record { a = even-half (s .b); b = s .a / 2; u = s .v; v = s .u }
+seen-in B s = record { a = s .a; b = s .b - even-half (s .b); u = s .u; v = s .v - even-half (s .b) }
+seen-in C s = record { a = even-half (s .b); b = s .a - s .a / 2; u = even-half (s .b) - 1 - s .v; v = s .a - 1 - s .u }

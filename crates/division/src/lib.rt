@@ -10,7 +10,7 @@ ghost use lib.Dec.{ltb};
 ghost use Rattle.division.specs.declared.Choice.the-variants.{LongCut, UCut};
 ghost use Rattle.division.specs.Division.{choice, even-half, Part, First, Second, B, C, part};
 ghost use Rattle.division.specs.Division.Inside.{Inside};
-ghost use Rattle.division.specs.Forms.{block, stepped-to, Steps, entered};
+ghost use Rattle.division.specs.Forms.{block, stepped-to, Steps, seen-in};
 
 // The choice rule's four cases.
 pub enum Choice {
@@ -149,7 +149,7 @@ pub struct Spot {
 // The square as the long cut's part that holds it has it.
 pub fn in_long(s: Spot) -> Spot
     requires { ⌜ (2 ≤ s .a) × (s .u < s .a) ⌝ }
-    ensures { λ r. ⌜ r ≡ entered (cond (ltb (s .u) (even-half (s .a))) First Second) s ⌝ }
+    ensures { λ r. ⌜ r ≡ seen-in (cond (ltb (s .u) (even-half (s .a))) First Second) s ⌝ }
 {
     let e = even_half(s.a);
     let first = s.u < e;
@@ -163,7 +163,7 @@ pub fn in_long(s: Spot) -> Spot
 
 // The square as part A has it.
 pub fn in_a(s: Spot) -> Spot
-    ensures { λ r. ⌜ r ≡ entered Part.A s ⌝ }
+    ensures { λ r. ⌜ r ≡ seen-in Part.A s ⌝ }
 {
     Spot {
         a: even_half(s.b),
@@ -176,7 +176,7 @@ pub fn in_a(s: Spot) -> Spot
 // The square as part B has it.
 pub fn in_b(s: Spot) -> Spot
     requires { ⌜ (2 ≤ s .b) × (even-half (s .b) ≤ s .v) ⌝ }
-    ensures { λ r. ⌜ r ≡ entered B s ⌝ }
+    ensures { λ r. ⌜ r ≡ seen-in B s ⌝ }
 {
     let e = even_half(s.b);
     Spot {
@@ -190,7 +190,7 @@ pub fn in_b(s: Spot) -> Spot
 // The square as part C has it.
 pub fn in_c(s: Spot) -> Spot
     requires { ⌜ (s .u < s .a) × (s .v < even-half (s .b)) ⌝ }
-    ensures { λ r. ⌜ r ≡ entered C s ⌝ }
+    ensures { λ r. ⌜ r ≡ seen-in C s ⌝ }
 {
     let e = even_half(s.b);
     Spot {

@@ -10,7 +10,7 @@ use borrow.Author.Tests.{le-leb}
 use lib.Dec.{leb}
 use lib.ListN.{length, drop, getD, replicate, length-replicate, getD-replicate, drop-of-length-le}
 use Rattle.terms.specs.Terms.{Figures, answered}
-use Rattle.terms.proofs.Laws.{limits, value}
+use Rattle.terms.proofs.Laws.{limits, figure}
 use Rattle.curve.specs.Lookups.{number-to-square, square-to-number}
 use Rattle.curve.proofs.Promises.{number-answered, number-asked, square-back}
 use Rattle.tables.specs.Tables.{by-number, by-square, due-by, unless-refused, fill}
@@ -25,7 +25,7 @@ by-number-due : (w h i x y k : ℕ) → number-to-square w h i ≡ answered (x �
 by-number-due w h i x y k e =
     let was = number-asked w h i (x ∷ y ∷ k ∷ []) e in
     let is = sym (number-answered w h (was .0) i (was .1)) ∙ e in
-    number-holds w h i (was .1) ∙ ap₂ (λ b a. b * w + a) (ap (value 1) is) (ap (value 0) is)
+    number-holds w h i (was .1) ∙ ap₂ (λ b a. b * w + a) (ap (figure 1) is) (ap (figure 0) is)
 
 by-square-due : (w h x y n k : ℕ) → square-to-number w h x y ≡ answered (n ∷ k ∷ []) → getD (by-square w h) (y * w + x) 0 ≡ n
 by-square-due w h x y n k e =

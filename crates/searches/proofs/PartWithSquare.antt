@@ -10,11 +10,11 @@ use Rattle.division.specs.declared.Choice.the-variants.{StraightRun, StraightSi
 use Rattle.division.specs.declared.Spot.{Spot}
 use Rattle.division.specs.Division.{square, whole, choice, even-half, First, Second, A, B, C, part, parts-of}
 use Rattle.division.specs.Division.Inside.{Sized, x-y, Inside}
-use Rattle.division.specs.Forms.{entered}
+use Rattle.division.specs.Forms.{seen-in}
 use Rattle.division.proofs.Cases.{long-lengths, u-lengths, run-length, side-length}
 use Rattle.division.proofs.Blocks.{whole-inside}
 use Rattle.division.proofs.Once.{number-below}
-use Rattle.division.proofs.Local.{Within, whole-holds, inner, Lies, in-first, in-second, in-a, in-b, in-c, squares-of, lies-smaller, lies-inside, lies-fits}
+use Rattle.division.proofs.Local.{Within, whole-holds, seen-from, Lies, in-first, in-second, in-a, in-b, in-c, squares-of, lies-smaller, lies-inside, lies-fits}
 use Rattle.division.proofs.Local.{area-run, area-side, area-cut}
 use Rattle.division.proofs.Walks.{a-limit, b-limit, Sums-fit, sums-fit}
 use Rattle.searches.specs.Searches.{number-packed, number-unpacked, numbered, spot-number, spot-blocks, Lying, Leads, Searches, search-packed}
@@ -64,8 +64,8 @@ long-two s before r c = long-lengths (whole (s .a) (s .b)) (sized-of s r) c
 
 module _ (s : Spot) (before : ℕ) (r : Lying s before) (e : choice (s .a) (s .b) ≡ LongCut) where
   long-leads-by : (first : Bool) → ltb (s .u) (even-half (s .a)) ≡ first →
-      Leads s before (entered (cond first First Second) s) (before + (s .u - entered (cond first First Second) s .u) * s .b)
-  unfolding squares-of part parts-of inner whole
+      Leads s before (seen-in (cond first First Second) s) (before + (s .u - seen-in (cond first First Second) s .u) * s .b)
+  unfolding squares-of part parts-of seen-from whole
   long-leads-by true t =
       leads s before r (long-two s before r e .1) (in-first (s .a) (s .b) (square (s .u) (s .v)) e (ltb-true (s .u) (even-half (s .a)) t) (r .across))
       (before + (s .u - s .u) * s .b) (rw sub-self (omega arith))
@@ -75,7 +75,7 @@ module _ (s : Spot) (before : ℕ) (r : Lying s before) (e : choice (s .a) (s .b
       leads s before r (long-two s before r e .1) (in-second (s .a) (s .b) (square (s .u) (s .v)) e from (r .along) (r .across))
       (before + (s .u - (s .u - even-half (s .a))) * s .b) (rw skip (omega arith))
 
-  pub long-leads : (t : Spot) → t ≡ entered (cond (ltb (s .u) (even-half (s .a))) First Second) s → Leads s before t (before + (s .u - t .u) * s .b)
+  pub long-leads : (t : Spot) → t ≡ seen-in (cond (ltb (s .u) (even-half (s .a))) First Second) s → Leads s before t (before + (s .u - t .u) * s .b)
   long-leads t is = subst⁻¹ (λ (t : Spot). Leads s before t (before + (s .u - t .u) * s .b)) is (long-leads-by (ltb (s .u) (even-half (s .a))) refl)
 
 -- the parts of a U cut that hold a spot, and the numbers before each
@@ -87,21 +87,21 @@ pub spot-sums : (s : Spot) (before : ℕ) → Lying s before → choice (s .a) (
 spot-sums s before r c e is = sums-fit before (s .a) (s .b) e (u-two s before r c .1) is (r .room)
 
 module _ (s : Spot) (before : ℕ) (r : Lying s before) (c : choice (s .a) (s .b) ≡ UCut) (e : ℕ) (half : e ≡ even-half (s .b)) (t : Spot) where
-  pub a-leads : t ≡ entered A s → s .v < e → s .u < s .a / 2 → Leads s before t before
-  unfolding squares-of part parts-of inner whole
+  pub a-leads : t ≡ seen-in A s → s .v < e → s .u < s .a / 2 → Leads s before t before
+  unfolding squares-of part parts-of seen-from whole
   a-leads is l m =
       subst⁻¹ (λ (t : Spot). Leads s before t before) is
       (leads s before r (u-two s before r c .1) (in-a (s .a) (s .b) (square (s .u) (s .v)) c m (subst (λ (n : ℕ). s .v < n) half l)) before (omega arith))
 
-  pub b-leads : t ≡ entered B s → e ≤ s .v → Leads s before t (before + e * (s .a / 2))
-  unfolding squares-of part parts-of inner whole
+  pub b-leads : t ≡ seen-in B s → e ≤ s .v → Leads s before t (before + e * (s .a / 2))
+  unfolding squares-of part parts-of seen-from whole
   b-leads is l =
       subst⁻¹ (λ (t : Spot). Leads s before t (before + e * (s .a / 2))) is
       (leads s before r (u-two s before r c .1) (in-b (s .a) (s .b) (square (s .u) (s .v)) c (r .along) (subst (λ (n : ℕ). n ≤ s .v) half l) (r .across))
       (before + e * (s .a / 2)) (rw half (omega arith)))
 
-  pub c-leads : t ≡ entered C s → s .v < e → s .a / 2 ≤ s .u → Leads s before t (before + e * (s .a / 2) + s .a * (s .b - e))
-  unfolding squares-of part parts-of inner whole
+  pub c-leads : t ≡ seen-in C s → s .v < e → s .a / 2 ≤ s .u → Leads s before t (before + e * (s .a / 2) + s .a * (s .b - e))
+  unfolding squares-of part parts-of seen-from whole
   c-leads is l m =
       subst⁻¹ (λ (t : Spot). Leads s before t (before + e * (s .a / 2) + s .a * (s .b - e))) is
       (leads s before r (u-two s before r c .1) (in-c (s .a) (s .b) (square (s .u) (s .v)) c m (r .along) (subst (λ (n : ℕ). s .v < n) half l))

@@ -18,7 +18,7 @@ use Rattle.leaves.specs.Walk.{wrong-at, wrong-in, checked}
 use Rattle.leaves.proofs.Entries.{either-below}
 use Rattle.leaves.proofs.Checks.{taken-out, over-below, over-some}
 use Rattle.tables.proofs.Whole.{taken}
-use Rattle.tables.proofs.Listed.{ps, ps-length, values-below, due-there, looked-for, looked-below, looked-at, due-length}
+use Rattle.tables.proofs.PlaceByPlace.{ps, ps-length, values-below, due-there, looked-for, looked-below, looked-at, due-length}
 
 abbrev Same : (ds vs : List ℕ) → ℕ → Type 0
 Same ds vs i = getD vs i 0 ≡ getD ds i 0

@@ -1,4 +1,4 @@
 pub mod Whole
-pub mod Listed
+pub mod PlaceByPlace
 pub mod Judged
 pub mod Promises

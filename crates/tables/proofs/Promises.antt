@@ -12,7 +12,7 @@ use lib.ListN.{length, getD}
 use Rattle.division.proofs.Small.{blocks-two}
 use Rattle.terms.specs.declared.Refusal.the-variants.{TableLength}
 use Rattle.terms.specs.Terms.{accepted, area-refusal, Figures, answered, refused}
-use Rattle.terms.proofs.Laws.{limits, named, named-back, refusal-some, refusal-not-0, value}
+use Rattle.terms.proofs.Laws.{limits, named, named-back, refusal-some, refusal-not-0, figure}
 use Rattle.terms.proofs.Ones.{one-equation, by-figures}
 use Rattle.division.specs.Division.{square, whole, square-of, number-of, blocks, +x, +y}
 use Rattle.division.proofs.Blocks.{whole-inside, few-blocks}
@@ -21,7 +21,7 @@ use Rattle.tables.specs.declared.CheckAnswer as CheckAnswers
 use Rattle.tables.specs.Tables.{by-number, by-square, due-by, judged, on-table, unless-refused, fill, check, fill-figures, check-figures}
 use Rattle.tables.proofs.Whole.{area-refused, length-refused, taken, given}
 use Rattle.tables.proofs.Judged.{judged-right}
-use Rattle.tables.proofs.Listed.{place-holds, values-below, due-there, looked-for, looked-below, looked-at, due-length}
+use Rattle.tables.proofs.PlaceByPlace.{place-holds, values-below, due-there, looked-for, looked-below, looked-at, due-length}
 
 -- A filled table holds what the lookups' definitions say.
 pub number-holds : (w h i : ℕ) → i < w * h → getD (by-number w h) i 0 ≡ square-of (whole w h) i .y * w + square-of (whole w h) i .x
@@ -150,7 +150,7 @@ module _ (w h : ℕ) (t : List ℕ) where
   unfolding fill
   all-blocks-reported n e =
       let was = fill-asked (ap (λ f. f .refusal) e) in
-      ap (value 0) (sym e ∙ taken w h t 1 (answered (length (blocks (whole w h)) ∷ [])) (was .0) (was .1))
+      ap (figure 0) (sym e ∙ taken w h t 1 (answered (length (blocks (whole w h)) ∷ [])) (was .0) (was .1))
 
   pub few-reported : (n : ℕ) → fill w h t ≡ answered (n ∷ []) → n ≤ 2 * (w * h) - 1
   unfolding whole
@@ -183,7 +183,7 @@ module _ (w h : ℕ) (kind : Bool) (t : List ℕ) where
 
 -- Two answers that meet a promise are one, and so are the tables that two fills leave.
 fill-from : Figures → FillAnswers.FillAnswer
-fill-from f = cond (eqb (f .refusal) 0) (FillAnswers.the-variants.Filled (value 0 f)) (FillAnswers.the-variants.Refused (named (f .refusal)))
+fill-from f = cond (eqb (f .refusal) 0) (FillAnswers.the-variants.Filled (figure 0 f)) (FillAnswers.the-variants.Refused (named (f .refusal)))
 
 fill-told : (r : FillAnswers.FillAnswer) → fill-from (fill-figures r) ≡ r
 unfolding fill-from
@@ -196,7 +196,7 @@ fill-one r s p q = (by-figures fill-figures fill-from fill-told r s (p .0) (q .0
 
 check-from : Figures → CheckAnswers.CheckAnswer
 check-from f =
-    cond (eqb (f .refusal) 0) (cond (eqb (value 0 f) 0) CheckAnswers.the-variants.Right (CheckAnswers.the-variants.Wrong (value 1 f) (value 2 f)))
+    cond (eqb (f .refusal) 0) (cond (eqb (figure 0 f) 0) CheckAnswers.the-variants.Right (CheckAnswers.the-variants.Wrong (figure 1 f) (figure 2 f)))
     (CheckAnswers.the-variants.Refused (named (f .refusal)))
 
 check-told : (r : CheckAnswers.CheckAnswer) → check-from (check-figures r) ≡ r
@@ -254,9 +254,9 @@ pub made-up-count :
     (n : ℕ) → ((w h : ℕ) (t : List ℕ) → accepted w h ≡ true → length t ≡ w * h → fill-figures (FillAnswers.the-variants.Filled n) ≡ fill w h t) → ⊥
 made-up-count n promise =
     let most = few-reported 1 1 (0 ∷ []) n (sym (promise 1 1 (0 ∷ []) one-square refl)) in
-    omega (arith, ap (value 0) (promise 2 2 (0 ∷ 0 ∷ 0 ∷ 0 ∷ []) four-squares refl ∙ four-reported))
+    omega (arith, ap (figure 0) (promise 2 2 (0 ∷ 0 ∷ 0 ∷ 0 ∷ []) four-squares refl ∙ four-reported))
 
 -- and one that reports the bound itself: 7 against 4
 pub bound-reported :
     ((w h : ℕ) (t : List ℕ) → accepted w h ≡ true → length t ≡ w * h → fill-figures (FillAnswers.the-variants.Filled (2 * (w * h) - 1)) ≡ fill w h t) → ⊥
-bound-reported promise = omega (arith, ap (value 0) (promise 2 2 (0 ∷ 0 ∷ 0 ∷ 0 ∷ []) four-squares refl ∙ four-reported))
+bound-reported promise = omega (arith, ap (figure 0) (promise 2 2 (0 ∷ 0 ∷ 0 ∷ 0 ∷ []) four-squares refl ∙ four-reported))

@@ -89,5 +89,5 @@ abbrev pub bit : Bool → ℕ
 bit true = 1
 bit false = 0
 
-abbrev pub value : ℕ → Figures → ℕ
-value i f = getD (f .values) i 0
+abbrev pub figure : ℕ → Figures → ℕ
+figure i f = getD (f .values) i 0

@@ -7,7 +7,7 @@ use native.Mathlib.Omega.{arith}
 use lib.Dec.{eqb}
 use lib.ListN.{length}
 use Rattle.terms.specs.Terms.{Figures}
-use Rattle.terms.proofs.Laws.{bit, value}
+use Rattle.terms.proofs.Laws.{bit, figure}
 use Rattle.terms.proofs.Ones.{by-figures}
 use Rattle.words.specs.declared.Numeral.{Numeral}
 use Rattle.words.specs.declared.Numeral.the-variants.{Value, NoNumber}
@@ -16,7 +16,7 @@ use Rattle.words.specs.Words.{numeral-figures, same-bytes, begins}
 
 -- A field's number can be told from its figures.
 numeral-from : Figures → Numeral
-numeral-from f = cond (eqb (f .refusal) 0) (Value (value 0 f)) NoNumber
+numeral-from f = cond (eqb (f .refusal) 0) (Value (figure 0 f)) NoNumber
 
 numeral-told : (n : Numeral) → numeral-from (numeral-figures n) ≡ n
 unfolding numeral-from

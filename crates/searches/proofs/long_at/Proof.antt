@@ -7,17 +7,17 @@ use native.Mathlib.Omega.{arith}
 use lib.Dec.{ltb}
 use Rattle.division.specs.declared.Spot.{Spot}
 use Rattle.division.specs.Division.{even-half, First, Second}
-use Rattle.division.specs.Forms.{entered}
+use Rattle.division.specs.Forms.{seen-in}
 use Rattle.searches.proofs.PartWithSquare.{long-two, long-leads}
 use Rattle.searches.proofs.long_at.Statement.{statement}
 use Rattle.searches.proofs.long_at.Tie as tie
 
 -- what is taken off u leaves no less than 0
-less-by : (s : Spot) (first : Bool) → entered (cond first First Second) s .u ≤ s .u
+less-by : (s : Spot) (first : Bool) → seen-in (cond first First Second) s .u ≤ s .u
 less-by s true = omega arith
 less-by s false = omega arith
 
-spot-less : (s t : Spot) → t ≡ entered (cond (ltb (s .u) (even-half (s .a))) First Second) s → t .u ≤ s .u
+spot-less : (s t : Spot) → t ≡ seen-in (cond (ltb (s .u) (even-half (s .a))) First Second) s → t .u ≤ s .u
 spot-less s t e = subst (λ (t : Spot). t .u ≤ s .u) (sym e) (less-by s (ltb (s .u) (even-half (s .a))))
 
 in-long-requires : tie.Need-in-long-requires

@@ -11,7 +11,7 @@ use Rattle.division.specs.Division.{whole, blocks}
 use Rattle.leaves.specs.Walk.{filled-with}
 use Rattle.tables.specs.Tables.{fill}
 use Rattle.tables.proofs.Whole.{area-refused, length-refused, taken, kept, given, block-fits}
-use Rattle.tables.proofs.Listed.{due-table}
+use Rattle.tables.proofs.PlaceByPlace.{due-table}
 use Rattle.tables.proofs.fill_whole.Statement.{statement}
 use Rattle.tables.proofs.fill_whole.Tie as tie
 
