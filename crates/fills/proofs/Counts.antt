@@ -12,7 +12,7 @@ use Rattle.division.specs.Forms.{block}
 use Rattle.division.proofs.Cases.{rule}
 use Rattle.division.proofs.Blocks.{few-blocks}
 use Rattle.leaves.specs.Walk.{exchanged, Fits}
-use Rattle.leaves.proofs.Entries.{run-count}
+use Rattle.leaves.proofs.Runs.{run-count}
 use Rattle.leaves.proofs.Parts.{side-call}
 
 module _ {w h : ℕ} {t : List ℕ} {k : Block} {at : ℕ} (f : Fits w h t k at) where
@@ -52,4 +52,4 @@ module _ {w h : ℕ} {t : List ℕ} {k : Block} {at : ℕ} (f : Fits w h t k at)
   pub side-count : choice (k .a) (k .b) ≡ StraightSide → (r : Placed) → block r ≡ exchanged k → length (blocks (block r)) ≡ length (blocks k)
   side-count c r there =
       let run = side-call f c r there in
-      sym (run-count r (run .0) (run .1)) ∙ sym (ap length (rule k StraightSide (f .inside .sized) c .1))
+      sym (run-count r run) ∙ sym (ap length (rule k StraightSide (f .inside .sized) c .1))

@@ -1,23 +1,18 @@
 -- Entries in a table: those of two lists in a row are those of the lists joined, and a block's places lie in its area's table.
 use mathlib.Core.Bool.{Bool, true, false, cond}
 use mathlib.Core.List.{List, [], _∷_, _++_, map, map-append}
-use mathlib.Core.Path.{_≡_, refl, sym, ap, subst, _∙_}
+use mathlib.Core.Path.{_≡_, refl, sym, ap, _∙_}
 use Prim.Native.Nat.{ℕ, suc, _+_, _*_, _≤_, _<_}
-use native.Mathlib.Nat.{add-zero, add-suc, suc-add, suc-mul, mul-comm, mul-one, mul-le-mul-right}
+use native.Mathlib.Nat.{add-zero, add-suc, suc-add, suc-mul, mul-comm, mul-le-mul-right}
 use native.Mathlib.Omega.{arith}
 use lib.ListN.{length, length-set, length-map}
-use Rattle.division.specs.declared.Choice.the-variants.{StraightRun}
-use Rattle.division.specs.declared.Placed.{Placed}
-use Rattle.division.specs.Division.{Square, Block, square, Direction, choice, moved, row, blocks}
+use Rattle.division.specs.Division.{Square, Block, Direction, moved, row}
 use Rattle.division.specs.Division.Inside.{Inside}
-use Rattle.division.specs.Forms.{block, stepped-to}
-use Rattle.division.proofs.Cases.{rule, run-length}
-use Rattle.division.proofs.Plane.{moved-none}
 use Rattle.division.proofs.Once.{row-length}
 use Rattle.division.proofs.Descent.{row-more}
-use Rattle.division.proofs.Local.{Within, spot, spot-inside}
-use Rattle.division.proofs.Walks.{run-moved, inside-grow, product-limit}
-use Rattle.leaves.specs.Walk.{place, over, over-block, enter-one, Fits}
+use Rattle.division.proofs.Local.{Within}
+use Rattle.division.proofs.Walks.{inside-grow, product-limit}
+use Rattle.leaves.specs.Walk.{place, over, enter-one, Fits}
 
 -- a square's place in a table of either kind
 pub either-below : (n p size : ℕ) (by-square : Bool) → n < size → p < size → cond by-square p n < size
@@ -63,38 +58,3 @@ largest {w} {h} {k = k} f = inside-grow w h 65535 65535 (f .w-limit) (f .h-limit
 
 pub squares-fit : {w h : ℕ} {t : List ℕ} {k : Block} {at : ℕ} → Fits w h t k at → w * h < 4294967296
 squares-fit {w} {h} f = product-limit w h (f .w-limit) (f .h-limit)
-
-module _ (k : Placed) {w h : ℕ} {t : List ℕ} {at : ℕ} (f : Fits w h t (block k) at) where
-  -- a square of the block has its place in the table
-  spot-below : (s : Square) → Within (k .a) (k .b) s → place w (spot (block k) s) < w * h
-  spot-below s l = place-below w h (spot (block k) s) (spot-inside w h (block k) (f .inside) s l)
-
-  -- along the run of a straight block
-  module _ (c : choice (k .a) (k .b) ≡ StraightRun) (i : ℕ) (l : i < k .a) where
-    one-wide : k .b ≡ 1
-    one-wide = run-length (block k) (f .inside .sized) c
-
-    pub run-number : at + i < w * h
-    run-number =
-        let all : k .a * k .b ≡ k .a = ap (λ n. k .a * n) one-wide ∙ mul-one (k .a) in
-        let room = f .room in
-        omega arith
-
-    pub run-place : (there : ℕ) → there ≡ stepped-to (k .along) i (k .back)
-        → place w (cond (k .turned) (square (k .across) there) (square there (k .across))) ≡ place w (moved (block k .run) i (block k .start))
-    run-place there e =
-        ap (place w)
-        (ap (λ n. cond (k .turned) (square (k .across) n) (square n (k .across))) e ∙ run-moved (k .along) (k .across) (k .turned) (k .back) i)
-
-    pub run-below : place w (moved (block k .run) i (block k .start)) < w * h
-    unfolding spot
-    run-below =
-        subst (λ (s : Square). place w s < w * h) (moved-none (block k .side) (moved (block k .run) i (block k .start)))
-        (spot-below (square i 0) (record { run = l; side = let one = one-wide in omega arith }))
-
-  pub run-over : {S : Type 0} (step : S → ℕ → ℕ → S) (state : S) → choice (k .a) (k .b) ≡ StraightRun
-      → over step state at (map (place w) (row (block k .run) (k .a) (block k .start))) ≡ over-block step state w (block k) at
-  run-over step state c = ap (λ zs. over step state at (map (place w) zs)) (sym (rule (block k) StraightRun (f .inside .sized) c .0))
-
-  pub run-count : choice (k .a) (k .b) ≡ StraightRun → 1 ≡ length (blocks (block k))
-  run-count c = sym (ap length (rule (block k) StraightRun (f .inside .sized) c .1))

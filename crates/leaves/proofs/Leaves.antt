@@ -54,47 +54,116 @@ module _ {w h : ℕ} {k : Block} (i : Inside w h k) (ea : k .a ≡ 2) where
   unfolding spot
   squares-three eb = up-and-down 3 eb _ three-deep ∙ (λ j. near-spot 0 j ∷ near-spot 1 j ∷ near-spot 2 j ∷ far k 2 ∷ far k 1 ∷ far k 0 ∷ [])
 
+-- What a walk asks of such a block; the places of the two squares that lie v along its side.
+abbrev pub Leaf : (w h : ℕ) → List ℕ → Block → (at : ℕ) → Type 0
+Leaf w h t k at = Fits w h t k at × (k .a ≡ 2) × (2 ≤ k .b) × (k .b ≤ 3)
+
+abbrev Rung : (w : ℕ) → Block → (v near-place far-place : ℕ) → Type 0
+Rung w k v p q = (p ≡ place w (near k v)) × (q ≡ place w (far k v))
+
+-- Two numbers from n on fit, and lie in a table of a size as their squares' places do.
+abbrev Two-fit : (n size p q : ℕ) → Type 0
+Two-fit n size p q = (n + 1 < 4294967296) × (n + 1 < size) × (p < size) × (q < size)
+
+module _ {w h : ℕ} {t : List ℕ} {k : Block} {at : ℕ} (leaf : Leaf w h t k at) where
+  deep-three : (k .b ≡ 2 → ⊥) → k .b ≡ 3
+  deep-three other =
+      let least = leaf .2 in
+      let most = leaf .3 in
+      omega arith
+
+  -- what a rung's code asks: of the lower two, and of the third
+  pub rung-asks : {v : ℕ} → v ≤ 1 → Inside w h k × (w ≤ 65535) × (h ≤ 65535) × (k .a ≡ 2) × (v < k .b)
+  rung-asks l = let least = leaf .2 in (leaf .0 .inside, leaf .0 .w-limit, leaf .0 .h-limit, leaf .1, omega arith)
+
+  pub high-asks : (k .b ≡ 2 → ⊥) → Inside w h k × (w ≤ 65535) × (h ≤ 65535) × (k .a ≡ 2) × (2 < k .b)
+  high-asks other = let three = deep-three other in (leaf .0 .inside, leaf .0 .w-limit, leaf .0 .h-limit, leaf .1, omega arith)
+
+  -- a number of the block fits
+  pub leaf-number : (n : ℕ) → n ≤ 4 → at + n < 4294967296
+  leaf-number n l =
+      let all : k .a * k .b ≡ 2 * k .b = ap (λ m. m * k .b) (leaf .1) in
+      let least = leaf .2 in
+      let room = leaf .0 .room in
+      let fits = squares-fit (leaf .0) in
+      omega arith
+
+  -- the places of a rung lie in the table
+  near-in : {v p : ℕ} → v < k .b → p ≡ place w (near k v) → p < w * h
+  near-in l is = near-below (leaf .0 .inside) (leaf .1) _ l is
+
+  far-in : {v p : ℕ} → v < k .b → p ≡ place w (far k v) → p < w * h
+  far-in l is = far-below (leaf .0 .inside) (leaf .1) _ l is
+
+  -- room for two numbers of the block, and for their squares' places
+  module _ {size : ℕ} (same : size ≡ length t) where
+    two-fit : (n : ℕ) → n + 2 ≤ at + 2 * k .b → {p q : ℕ} → p < w * h → q < w * h → Two-fit n size p q
+    two-fit n l below-p below-q =
+        let all : k .a * k .b ≡ 2 * k .b = ap (λ m. m * k .b) (leaf .1) in
+        let room = leaf .0 .room in
+        let whole-size = leaf .0 .size in
+        let fits = squares-fit (leaf .0) in
+        (omega arith, omega arith, omega arith, omega arith)
+
+    pub up-fits : {p q : ℕ} → p ≡ place w (near k 0) → q ≡ place w (near k 1) → Two-fit at size p q
+    up-fits is-p is-q = let least = leaf .2 in two-fit at (omega arith) (near-in (omega arith) is-p) (near-in (omega arith) is-q)
+
+    pub top-fits : (k .b ≡ 2 → ⊥) → {p q : ℕ} → Rung w k 2 p q → Two-fit (at + 2) size p q
+    top-fits other is = let three = deep-three other in two-fit (at + 2) (omega arith) (near-in (omega arith) (is .0)) (far-in (omega arith) (is .1))
+
+    down-fits : (n : ℕ) → n + 2 ≤ 2 * k .b → {p q : ℕ} → p ≡ place w (far k 1) → q ≡ place w (far k 0) → Two-fit (at + n) size p q
+    down-fits n l is-p is-q = let least = leaf .2 in two-fit (at + n) (omega arith) (far-in (omega arith) is-p) (far-in (omega arith) is-q)
+
+    pub down-from-two : {p q : ℕ} → p ≡ place w (far k 1) → q ≡ place w (far k 0) → Two-fit (at + 2) size p q
+    down-from-two is-p is-q = let least = leaf .2 in down-fits 2 (omega arith) is-p is-q
+
+    pub down-from-three : (k .b ≡ 2 → ⊥) → {p q : ℕ} → p ≡ place w (far k 1) → q ≡ place w (far k 0) → Two-fit (at + 4) size p q
+    down-from-three other is-p is-q = let three = deep-three other in down-fits 4 (omega arith) is-p is-q
+
+  -- its blocks
   pub count-two-deep : k .b ≡ 2 → 4 ≡ length (blocks k)
-  count-two-deep eb = blocks-two (k .start) (k .run) (k .side)
-      ∙ (λ j. length (blocks (record { start = k .start; run = k .run; a = sym ea j; side = k .side; b = sym eb j })))
+  count-two-deep eb =
+      blocks-two (k .start) (k .run) (k .side)
+      ∙ (λ j. length (blocks (record { start = k .start; run = k .run; a = sym (leaf .1) j; side = k .side; b = sym eb j })))
 
-  pub count-three-deep : k .b ≡ 3 → 4 ≡ length (blocks k)
-  count-three-deep eb = blocks-three (k .start) (k .run) (k .side)
-      ∙ (λ j. length (blocks (record { start = k .start; run = k .run; a = sym ea j; side = k .side; b = sym eb j })))
+  pub count-three-deep : (k .b ≡ 2 → ⊥) → 4 ≡ length (blocks k)
+  count-three-deep other =
+      blocks-three (k .start) (k .run) (k .side)
+      ∙ (λ j. length (blocks (record { start = k .start; run = k .run; a = sym (leaf .1) j; side = k .side; b = sym (deep-three other) j })))
 
-  -- steps on the squares two by two, as the code takes them, and the walk over the block
-  module _ {S : Type 0} (step : S → ℕ → ℕ → S) (state : S) (at : ℕ) {p₀ p₁ q₀ q₁ : ℕ} (near₀ : p₀ ≡ place w (near k 0)) (near₁ : p₁ ≡ place w (near k 1))
-      (far₁ : q₁ ≡ place w (far k 1)) (far₀ : q₀ ≡ place w (far k 0)) {first : S} (one : first ≡ twice step state at p₀ p₁) where
+  -- steps on the squares two by two, as the code takes them, are the walk over the block
+  module _ {S : Type 0} (step : S → ℕ → ℕ → S) (state : S) {p₀ q₀ p₁ q₁ : ℕ} (low : Rung w k 0 p₀ q₀) (middle : Rung w k 1 p₁ q₁)
+      {first : S} (one : first ≡ twice step state at p₀ p₁) where
     pub over-two-deep : k .b ≡ 2 → {last : S} → last ≡ twice step first (at + 2) q₁ q₀ → last ≡ over-block step state w k at
     unfolding over
     over-two-deep eb two =
         two
-        ∙ (λ j. twice step (one j) (at + 2) (far₁ j) (far₀ j))
-        ∙ (λ j. twice step (twice step state at (near₀ j) (near₁ j)) (at + 2) (place w (far k 1)) (place w (far k 0)))
+        ∙ (λ j. twice step (one j) (at + 2) (middle .1 j) (low .1 j))
+        ∙ (λ j. twice step (twice step state at (low .0 j) (middle .0 j)) (at + 2) (place w (far k 1)) (place w (far k 0)))
         ∙ sym
-        (ap (λ ss. over step state at (map (place w) ss)) (squares-two eb)
+        (ap (λ ss. over step state at (map (place w) ss)) (squares-two (leaf .0 .inside) (leaf .1) eb)
         ∙ over-two step state at (place w (near k 0)) (place w (near k 1)) (place w (far k 1) ∷ place w (far k 0) ∷ [])
         ∙ over-two step (twice step state at (place w (near k 0)) (place w (near k 1))) (at + 2) (place w (far k 1)) (place w (far k 0)) [])
 
-    pub over-three-deep : k .b ≡ 3 → {p₂ q₂ : ℕ} → p₂ ≡ place w (near k 2) → q₂ ≡ place w (far k 2) → {second last : S}
+    pub over-three-deep : (k .b ≡ 2 → ⊥) → {p₂ q₂ : ℕ} → Rung w k 2 p₂ q₂ → {second last : S}
         → second ≡ twice step first (at + 2) p₂ q₂ → last ≡ twice step second (at + 4) q₁ q₀ → last ≡ over-block step state w k at
     unfolding over
-    over-three-deep eb near₂ far₂ two three =
-        let low = twice step state at (place w (near k 0)) (place w (near k 1)) in
-        let high = twice step low (at + 2) (place w (near k 2)) (place w (far k 2)) in
+    over-three-deep other high two three =
+        let up = twice step state at (place w (near k 0)) (place w (near k 1)) in
+        let top = twice step up (at + 2) (place w (near k 2)) (place w (far k 2)) in
         let down = place w (far k 1) ∷ place w (far k 0) ∷ [] in
         let on : at + 2 + 2 ≡ at + 4 = omega arith in
         three
-        ∙ (λ j. twice step (two j) (at + 4) (far₁ j) (far₀ j))
-        ∙ (λ j. twice step (twice step (one j) (at + 2) (near₂ j) (far₂ j)) (at + 4) (place w (far k 1)) (place w (far k 0)))
-        ∙ (λ j. twice step (twice step (twice step state at (near₀ j) (near₁ j)) (at + 2) (place w (near k 2)) (place w (far k 2))) (at + 4) (place w (far k 1))
-        (place w (far k 0)))
+        ∙ (λ j. twice step (two j) (at + 4) (middle .1 j) (low .1 j))
+        ∙ (λ j. twice step (twice step (one j) (at + 2) (high .0 j) (high .1 j)) (at + 4) (place w (far k 1)) (place w (far k 0)))
+        ∙ (λ j. twice step (twice step (twice step state at (low .0 j) (middle .0 j)) (at + 2) (place w (near k 2)) (place w (far k 2)))
+        (at + 4) (place w (far k 1)) (place w (far k 0)))
         ∙ sym
-        (ap (λ ss. over step state at (map (place w) ss)) (squares-three eb)
+        (ap (λ ss. over step state at (map (place w) ss)) (squares-three (leaf .0 .inside) (leaf .1) (deep-three other))
         ∙ over-two step state at (place w (near k 0)) (place w (near k 1)) (place w (near k 2) ∷ place w (far k 2) ∷ down)
-        ∙ over-two step low (at + 2) (place w (near k 2)) (place w (far k 2)) down
-        ∙ ap (λ n. over step high n down) on
-        ∙ over-two step high (at + 4) (place w (far k 1)) (place w (far k 0)) [])
+        ∙ over-two step up (at + 2) (place w (near k 2)) (place w (far k 2)) down
+        ∙ ap (λ n. over step top n down) on
+        ∙ over-two step top (at + 4) (place w (far k 1)) (place w (far k 0)) [])
 
 -- the places of a rung, as its code has them
 both-moved : (along across : ℕ) (turned back : Bool) (v : ℕ)
@@ -116,20 +185,3 @@ module _ (k : Placed) (w v : ℕ) {beyond up : ℕ} (eb : beyond ≡ stepped-to 
   far-is =
       ap (place w)
       (ap₂ (λ m n. cond (k .turned) (square m n) (square n m)) eu eb ∙ both-moved (k .along) (k .across) (k .turned) (k .back) v)
-
--- room for two numbers of a leaf, and for their squares' places
-pub leaf-two : {w h : ℕ} {t : List ℕ} {k : Block} {at : ℕ} → Fits w h t k at → k .a ≡ 2 → (t′ : List ℕ) → length t′ ≡ length t → (n : ℕ) → n + 2 ≤ at + 2 * k .b
-    → {p q : ℕ} → p < w * h → q < w * h → (n + 1 < 4294967296) × (n + 1 < length t′) × (p < length t′) × (q < length t′)
-leaf-two {k = k} f ea t′ same n l below-p below-q =
-    let all : k .a * k .b ≡ 2 * k .b = ap (λ m. m * k .b) ea in
-    let room = f .room in
-    let size = f .size in
-    let fits = squares-fit f in
-    (omega arith, omega arith, omega arith, omega arith)
-
-pub leaf-number : {w h : ℕ} {t : List ℕ} {k : Block} {at : ℕ} → Fits w h t k at → k .a ≡ 2 → (n : ℕ) → n ≤ 2 * k .b → at + n < 4294967296
-leaf-number {k = k} f ea n l =
-    let all : k .a * k .b ≡ 2 * k .b = ap (λ m. m * k .b) ea in
-    let room = f .room in
-    let fits = squares-fit f in
-    omega arith

@@ -1,120 +1,82 @@
--- `leaves::check_run` meets its contract. The invariant: the first i squares of the row are looked at; the measure is what is left of it.
+-- `leaves::check_run` meets its contract. The invariant: the first i squares of the run are looked at; the measure is what is left of it.
 use borrow.Author.Needs.{needs}
-use mathlib.Core.List.{map}
-use mathlib.Core.Path.{_≡_, refl, sym, ap, ap₂, _∙_}
-use Prim.Native.Nat.{_+_, _-_, _≤_}
-use native.Mathlib.Numerals.{add-one}
+use mathlib.Core.Path.{_≡_, refl}
+use Prim.Native.Nat.{_-_, _≤_}
 use native.Mathlib.Omega.{arith}
 use Rattle.division.specs.Division.{row}
-use Rattle.division.specs.Forms.{block}
 use Rattle.division.proofs.Walks.{steps-along}
-use Rattle.leaves.specs.Walk.{place, least-one, over}
-use Rattle.leaves.proofs.Entries.{row-over, largest, squares-fit, run-number, run-place, run-below, run-over}
+use Rattle.leaves.specs.Walk.{least-one, over}
+use Rattle.leaves.proofs.Entries.{largest}
+use Rattle.leaves.proofs.Runs.{run-places, run-number, run-place-fits, run-fits, run-on, run-whole}
 use Rattle.leaves.proofs.check_run.Statement.{statement}
 use Rattle.leaves.proofs.check_run.Tie as tie
 
-abbrev Inv-loop : tie.InvT-loop
-Inv-loop table k at by-square so-far w least₀ i₀ i-end least i =
-    (i ≤ i-end) × (least ≡ over (least-one by-square table) so-far at (map (place w) (row (block k .run) i (block k .start))))
+abbrev Inv-looked-at : tie.InvT-loop
+Inv-looked-at table k at by-square so-far w least₀ i₀ i-end least i =
+    (i ≤ i-end) × (least ≡ over (least-one by-square table) so-far at (run-places k w i))
 
-abbrev μ-loop : tie.MeasureT-loop
-μ-loop table k at by-square so-far w least₀ i₀ i-end least i = i-end - i
+abbrev μ-left : tie.MeasureT-loop
+μ-left table k at by-square so-far w least₀ i₀ i-end least i = i-end - i
 
-loop-holds : tie.Need-loop-holds Inv-loop μ-loop
+loop-holds : tie.Need-loop-holds Inv-looked-at μ-left
 unfolding over row
 loop-holds c = (omega arith, refl)
 
-stepped-requires : tie.Need-stepped-requires Inv-loop μ-loop
+stepped-requires : tie.Need-stepped-requires Inv-looked-at μ-left
 stepped-requires c κs =
     let start = c .before .before .before in
     steps-along (start .args .k) (largest (start .pre .0)) (c .before .loop .i) (c .loop-test .taken)
 
-place-of-requires : tie.Need-place-of-requires Inv-loop μ-loop
+place-of-requires : tie.Need-place-of-requires Inv-looked-at μ-left
 place-of-requires c κs =
     let turn = c .before .before in
     let start = turn .before .before in
-    let room = start .pre .0 in
-    let straight = start .pre .1 in
-    let k = start .args .k in
-    let i = turn .loop .i in
-    let there = run-place k room straight i (c .before .loop-test .taken) (c .stepped .result) (c .stepped .ensures) in
-    let below = run-below k room straight i (c .before .loop-test .taken) in
-    let all = squares-fit room in
-    omega arith
+    run-place-fits (start .args .k) (start .pre) (turn .loop .i) (c .before .loop-test .taken) (c .stepped .ensures)
 
-add-compare : tie.Need-add-compare Inv-loop μ-loop
+add-compare : tie.Need-add-compare Inv-looked-at μ-left
 add-compare c =
     let test = c .before .before in
     let turn = test .before in
     let start = turn .before .before in
-    let room = start .pre .0 in
-    let below = run-number (start .args .k) room (start .pre .1) (turn .loop .i) (test .loop-test .taken) in
-    let all = squares-fit room in
-    record { fits = omega arith }
+    record { fits = run-number (start .args .k) (start .pre) (turn .loop .i) (test .loop-test .taken) }
 
-compare-requires : tie.Need-compare-requires Inv-loop μ-loop
+compare-requires : tie.Need-compare-requires Inv-looked-at μ-left
 compare-requires c κs =
     let test = c .before .before in
     let turn = test .before in
     let start = turn .before .before in
-    let room = start .pre .0 in
-    let straight = start .pre .1 in
-    let k = start .args .k in
-    let i = turn .loop .i in
-    let size = room .size in
-    let number = run-number k room straight i (test .loop-test .taken) in
-    let there = c .place-of .ensures ∙ run-place k room straight i (test .loop-test .taken) (c .before .stepped .result) (c .before .stepped .ensures) in
-    let below = run-below k room straight i (test .loop-test .taken) in
-    (omega arith, omega arith)
+    run-fits (start .args .k) (start .pre) (turn .loop .i) (test .loop-test .taken) (c .before .stepped .ensures) (c .place-of .ensures) refl
 
-add-i : tie.Need-add-i Inv-loop μ-loop
+add-i : tie.Need-add-i Inv-looked-at μ-left
 add-i c = search needs
 
-loop-less : tie.Need-loop-less Inv-loop μ-loop
+loop-less : tie.Need-loop-less Inv-looked-at μ-left
 loop-less c = search needs
 
-loop-again : tie.Need-loop-again Inv-loop μ-loop
+loop-again : tie.Need-loop-again Inv-looked-at μ-left
 loop-again c =
     let stepped = c .before .before in
     let test = stepped .before in
     let turn = test .before in
-    let start = turn .before .before in
-    let by-square = start .args .by-square in
-    let table = start .args .table .now in
-    let at = start .args .at in
-    let so-far = start .args .so-far in
-    let area = start .args .area in
-    let k = start .args .k in
-    let i = turn .loop .i in
-    let there =
-    c .before .place-of .ensures
-    ∙ run-place k (start .pre .0) (start .pre .1) i (test .loop-test .taken) (stepped .stepped .result) (stepped .stepped .ensures) in (
+    let start = turn .before .before in (
       omega arith,
-      c .compare .ensures
-          ∙ ap₂ (λ l p. least-one by-square table l (at + i) p) (turn .loop .inv .1) there
-          ∙ sym (row-over (least-one by-square table) so-far (area .w) at (block k .run) i (block k .start))
-          ∙ ap (λ n. over (least-one by-square table) so-far at (map (place (area .w)) (row (block k .run) n (block k .start)))) (sym (add-one i)),
+      run-on (start .args .k) (start .pre) (turn .loop .i) (test .loop-test .taken) (stepped .stepped .ensures) (c .before .place-of .ensures)
+          (least-one (start .args .by-square) (start .args .table .now)) (start .args .so-far) (turn .loop .inv .1) (c .compare .ensures),
     )
 
-returns : tie.Need-returns Inv-loop μ-loop
+returns : tie.Need-returns Inv-looked-at μ-left
 returns c =
     let turn = c .before in
     let start = turn .before .before in
-    let k = start .args .k in
-    let by-square = start .args .by-square in
-    let table = start .args .table .now in
-    let so-far = start .args .so-far in
-    let all : turn .loop .i ≡ k .a = let most = turn .loop .inv .0 in let last = c .loop-test .left in omega arith in
-    turn .loop .inv .1
-    ∙ ap (λ n. over (least-one by-square table) so-far (start .args .at) (map (place (start .args .area .w)) (row (block k .run) n (block k .start)))) all
-    ∙ run-over k (start .pre .0) (least-one by-square table) so-far (start .pre .1)
+    let all : turn .loop .i ≡ start .args .k .a = let most = turn .loop .inv .0 in let last = c .loop-test .left in omega arith in
+    run-whole (start .args .k) (start .pre) (least-one (start .args .by-square) (start .args .table .now)) (start .args .so-far) all (turn .loop .inv .1)
 
 pub check-run-spec : {M : Type 1} → statement M
 check-run-spec =
     tie.close
     (tie.spec
-    Inv-loop
-    μ-loop
+    Inv-looked-at
+    μ-left
     loop-holds
     stepped-requires
     place-of-requires
