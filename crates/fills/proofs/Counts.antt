@@ -13,43 +13,44 @@ use Rattle.division.proofs.Cases.{rule}
 use Rattle.division.proofs.Blocks.{few-blocks}
 use Rattle.leaves.specs.Walk.{exchanged, Fits}
 use Rattle.leaves.proofs.Runs.{run-count}
-use Rattle.leaves.proofs.Parts.{side-call}
+use Rattle.leaves.proofs.Parts.{Cut, side-call}
 
-module _ {w h : ℕ} {t : List ℕ} {k : Block} {at : ℕ} (f : Fits w h t k at) where
-  -- a count of blocks is a 64-bit number
-  few : length (blocks k) < 8589934592
-  few =
-      let most = few-blocks k (f .inside .sized) in
-      let room = f .room in
-      let all = mul-le-mul (f .w-limit) (f .h-limit) in
+-- a count of blocks is a 64-bit number
+pub few : {w h : ℕ} {t : List ℕ} {k : Block} {at : ℕ} → Fits w h t k at → length (blocks k) < 8589934592
+few {k = k} room =
+    let most = few-blocks k (room .inside .sized) in
+    let squares = room .room in
+    let all = mul-le-mul (room .w-limit) (room .h-limit) in
+    omega arith
+
+-- the long cut, whose parts the code counts
+module _ {w h : ℕ} {t : List ℕ} {k : Block} {at m : ℕ} (cut : Cut LongCut w h t k at m) {p q : Block} (is-p : p ≡ part First k) (is-q : q ≡ part Second k)
+    {i j : ℕ} (count-p : i ≡ length (blocks p)) (count-q : j ≡ length (blocks q)) where
+  pub long-count : i + j + 1 ≡ length (blocks k)
+  long-count =
+      let sum =
+      ap length (rule k LongCut (cut .1 .0 .inside .sized) (cut .1 .1) .1)
+      ∙ ap suc (length-append (blocks (part First k)) (blocks (part Second k))) in
+      let first = count-p ∙ ap (λ b. length (blocks b)) is-p in
+      let second = count-q ∙ ap (λ b. length (blocks b)) is-q in
       omega arith
 
-  -- the long cut
-  module _ (c : choice (k .a) (k .b) ≡ LongCut) {n m : ℕ} (p : n ≡ length (blocks (part First k))) (q : m ≡ length (blocks (part Second k))) where
-    pub long-count : n + m + 1 ≡ length (blocks k)
-    long-count =
-        let sum = ap length (rule k LongCut (f .inside .sized) c .1) ∙ ap suc (length-append (blocks (part First k)) (blocks (part Second k))) in
-        omega arith
+-- the U cut
+module _ {w h : ℕ} {t : List ℕ} {k : Block} {at m : ℕ} (cut : Cut UCut w h t k at m) {p q r : Block} (is-p : p ≡ part A k) (is-q : q ≡ part B k)
+    (is-r : r ≡ part C k) {i j l : ℕ} (count-p : i ≡ length (blocks p)) (count-q : j ≡ length (blocks q)) (count-r : l ≡ length (blocks r)) where
+  pub u-count : i + j + l + 1 ≡ length (blocks k)
+  u-count =
+      let sum =
+      ap length (rule k UCut (cut .1 .0 .inside .sized) (cut .1 .1) .1)
+      ∙ ap suc (length-append (blocks (part A k)) (blocks (part B k) ++ blocks (part C k))
+      ∙ ap (λ x. length (blocks (part A k)) + x) (length-append (blocks (part B k)) (blocks (part C k)))) in
+      let first = count-p ∙ ap (λ b. length (blocks b)) is-p in
+      let second = count-q ∙ ap (λ b. length (blocks b)) is-q in
+      let third = count-r ∙ ap (λ b. length (blocks b)) is-r in
+      omega arith
 
-    pub long-fits : n + m + 1 < 8589934592
-    long-fits = let all = long-count in let most = few in omega arith
-
-  -- the U cut
-  module _ (c : choice (k .a) (k .b) ≡ UCut) {l m n : ℕ}
-      (p : l ≡ length (blocks (part A k))) (q : m ≡ length (blocks (part B k))) (r : n ≡ length (blocks (part C k))) where
-    pub u-count : l + m + n + 1 ≡ length (blocks k)
-    u-count =
-        let sum =
-        ap length (rule k UCut (f .inside .sized) c .1)
-        ∙ ap suc (length-append (blocks (part A k)) (blocks (part B k) ++ blocks (part C k))
-        ∙ ap (λ x. length (blocks (part A k)) + x) (length-append (blocks (part B k)) (blocks (part C k)))) in
-        omega arith
-
-    pub u-fits : l + m + n + 1 < 8589934592
-    u-fits = let all = u-count in let most = few in omega arith
-
-  -- a straight block with run and side exchanged: one block as well
-  pub side-count : choice (k .a) (k .b) ≡ StraightSide → (r : Placed) → block r ≡ exchanged k → length (blocks (block r)) ≡ length (blocks k)
-  side-count c r there =
-      let run = side-call f c r there in
-      sym (run-count r run) ∙ sym (ap length (rule k StraightSide (f .inside .sized) c .1))
+-- a straight block with run and side exchanged: one block as well
+pub side-count : {w h : ℕ} {t : List ℕ} {k : Block} {at : ℕ} → Fits w h t k at → choice (k .a) (k .b) ≡ StraightSide → (r : Placed) → block r ≡ exchanged k
+    → length (blocks (block r)) ≡ length (blocks k)
+side-count {k = k} room case r there =
+    sym (run-count r (side-call room case r there)) ∙ sym (ap length (rule k StraightSide (room .inside .sized) case .1))

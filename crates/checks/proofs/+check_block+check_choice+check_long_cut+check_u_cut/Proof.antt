@@ -1,12 +1,13 @@
 -- The four functions of a check meet their contracts, by the laws of `Parts`: the parts' looks in order are the block's. The measure is three times the
 -- block's area, plus 0 for a cut, 1 for `check_choice` and 2 for `check_block`: block, choice and cut are three calls on one block.
-use mathlib.Core.Path.{refl, sym, ap, ap₂, subst, _∙_}
-use Prim.Native.Nat.{ℕ, _+_, _-_, _*_, _/_, _<_}
+use mathlib.Core.Path.{refl, sym, _∙_}
+use Prim.Native.Nat.{ℕ, _+_, _*_, _<_}
 use native.Mathlib.Omega.{arith}
 use Rattle.division.proofs.Walks.{a-limit, b-limit}
-use Rattle.leaves.specs.Walk.{over-block, least-one}
+use Rattle.leaves.specs.Walk.{least-one}
 use Rattle.leaves.proofs.Entries.{largest}
-use Rattle.leaves.proofs.Parts.{first-call, second-call, second-number, long-over, a-call, b-call, c-call, u-deep, u-numbers, u-over, side-call, side-over}
+use Rattle.leaves.proofs.Parts.{to-cut, part-asks, first-call, second-call, second-number, long-steps, a-call, b-call, c-call, u-deep, u-numbers, u-steps}
+use Rattle.leaves.proofs.Parts.{side-call, side-over}
 use borrow.Fn.Kinds.{In}
 use borrow.Fn.PlainCycle.{Measures, is, falls, and}
 use Rattle.checks.proofs.check_block.Reads as check-block
@@ -162,8 +163,7 @@ check-choice-enum-told-3 t c = c .match .keys3
 check-choice-check-long-cut-requires : (t : ℕ) → check-choice-lts.Need-check-long-cut-requires (check-choice-calls t) (check-choice-at t) check-choice.Post
 check-choice-check-long-cut-requires t c κs =
     let choose = c .before .before in
-    let start = choose .before .before in
-    (let m = start .pre .0 in omega arith, (start .pre .1, (sym (choose .choose .ensures) ∙ c .enum-told3 .given .1)))
+    to-cut (choose .before .before .pre) (choose .choose .ensures) (c .enum-told3 .given .1)
 
 check-choice-enum-told-4 : (t : ℕ) → check-choice-lts.Need-enum-told-4 (check-choice-calls t) (check-choice-at t) check-choice.Post
 check-choice-enum-told-4 t c = c .match .keys4
@@ -182,8 +182,7 @@ check-choice-returns t c = c .check-leaf .ensures
 check-choice-check-u-cut-requires : (t : ℕ) → check-choice-lts.Need-check-u-cut-requires (check-choice-calls t) (check-choice-at t) check-choice.Post
 check-choice-check-u-cut-requires t c κs =
     let choose = c .before .before .before in
-    let start = choose .before .before in
-    (let m = start .pre .0 in omega arith, (start .pre .1, (sym (choose .choose .ensures) ∙ c .before .enum-told4 .given .1)))
+    to-cut (choose .before .before .pre) (choose .choose .ensures) (c .before .enum-told4 .given .1)
 
 check-choice-returns-2 : (t : ℕ) → check-choice-lts.Need-returns-2 (check-choice-calls t) (check-choice-at t) check-choice.Post
 check-choice-returns-2 t c = c .check-run .ensures
@@ -207,152 +206,95 @@ check-long-cut-even-half-requires : (t : ℕ) → check-long-cut-lts.Need-even-h
 check-long-cut-even-half-requires t c κs = tt
 
 check-long-cut-mul-to-second : (t : ℕ) → check-long-cut-lts.Need-mul-to-second (check-long-cut-calls t) (check-long-cut-at t) check-long-cut.Post
-check-long-cut-mul-to-second t c =
-    let start = c .before .before .before in
-    record { fits = second-number (start .pre .1 .0) (start .pre .1 .1) (c .before .even-half .ensures) .0 }
+check-long-cut-mul-to-second t c = record { fits = second-number (c .before .before .before .pre) (c .before .even-half .ensures) .0 }
 
 check-long-cut-add-to-second : (t : ℕ) → check-long-cut-lts.Need-add-to-second (check-long-cut-calls t) (check-long-cut-at t) check-long-cut.Post
-check-long-cut-add-to-second t c =
-    let start = c .before .before .before in
-    record { fits = second-number (start .pre .1 .0) (start .pre .1 .1) (c .before .even-half .ensures) .1 }
+check-long-cut-add-to-second t c = record { fits = second-number (c .before .before .before .pre) (c .before .even-half .ensures) .1 }
 
 check-long-cut-long-part-requires : (t : ℕ) → check-long-cut-lts.Need-long-part-requires (check-long-cut-calls t) (check-long-cut-at t) check-long-cut.Post
-check-long-cut-long-part-requires t c κs =
-    let start = c .before .before .before in
-    (largest (start .pre .1 .0), start .pre .1 .1)
+check-long-cut-long-part-requires t c κs = part-asks (c .before .before .before .pre)
 
 check-long-cut-check-block-requires : (t : ℕ) → check-long-cut-lts.Need-check-block-requires (check-long-cut-calls t) (check-long-cut-at t) check-long-cut.Post
 check-long-cut-check-block-requires t c κs =
-    let even-half = c .before .before in
-    let start = even-half .before .before in
-    let next = first-call (start .pre .1 .0) (start .pre .1 .1) (even-half .even-half .ensures) (c .long-part .result) (c .long-part .ensures) in
-    (subst (λ (m : ℕ). 3 * (c .long-part .result .a * c .long-part .result .b) + 2 < m) (start .pre .0) (next .0), next .1)
+    let halved = c .before .before in
+    first-call (halved .before .before .pre) (halved .even-half .ensures) (c .long-part .result) (c .long-part .ensures)
 
 check-long-cut-long-part-requires-2 : (t : ℕ) → check-long-cut-lts.Need-long-part-requires-2 (check-long-cut-calls t) (check-long-cut-at t) check-long-cut.Post
-check-long-cut-long-part-requires-2 t c κs =
-    let start = c .before .before .before .before .before in
-    (largest (start .pre .1 .0), start .pre .1 .1)
+check-long-cut-long-part-requires-2 t c κs = part-asks (c .before .before .before .before .before .pre)
 
 check-long-cut-check-block-requires-2 :
     (t : ℕ) → check-long-cut-lts.Need-check-block-requires-2 (check-long-cut-calls t) (check-long-cut-at t) check-long-cut.Post
 check-long-cut-check-block-requires-2 t c κs =
-    let even-half = c .before .before .before .before in
-    let start = even-half .before .before in
-    let next =
-    second-call (start .pre .1 .0) (start .pre .1 .1) (even-half .even-half .ensures) (start .args .table .now) refl (c .long-part2 .result)
-    (c .long-part2 .ensures) in
-    (subst (λ (m : ℕ). 3 * (c .long-part2 .result .a * c .long-part2 .result .b) + 2 < m) (start .pre .0) (next .0), next .1)
+    let halved = c .before .before .before .before in
+    second-call (halved .before .before .pre) (halved .even-half .ensures) refl (c .long-part2 .result) (c .long-part2 .ensures)
 
 check-long-cut-returns : (t : ℕ) → check-long-cut-lts.Need-returns (check-long-cut-calls t) (check-long-cut-at t) check-long-cut.Post
 check-long-cut-returns t c =
-    let at-check-block = c .before .before in
-    let long-part = at-check-block .before in
-    let even-half = long-part .before .before in
-    let start = even-half .before .before in
-    let so-far = start .args .so-far in
-    let look = least-one (start .args .by-square) (start .args .table .now) in
-    let w = start .args .area .w in
-    let at = start .args .at in
-    c .check-block2 .ensures
-    ∙ ap₂ (λ l j. over-block look l w j (at + even-half .even-half .result * start .args .k .b))
-    (at-check-block .check-block .ensures ∙ ap (λ j. over-block look so-far w j at) (long-part .long-part .ensures))
-    (c .before .long-part2 .ensures)
-    ∙ long-over (start .pre .1 .0) (start .pre .1 .1) (even-half .even-half .ensures) look so-far
+    let first = c .before .before in
+    let part = first .before in
+    let halved = part .before .before in
+    let start = halved .before .before in
+    long-steps (start .pre) (halved .even-half .ensures) (least-one (start .args .by-square) (start .args .table .now)) (start .args .so-far)
+    (part .long-part .ensures) (c .before .long-part2 .ensures) (first .check-block .ensures) (c .check-block2 .ensures)
 
 check-u-cut-even-half-requires : (t : ℕ) → check-u-cut-lts.Need-even-half-requires (check-u-cut-calls t) (check-u-cut-at t) check-u-cut.Post
 check-u-cut-even-half-requires t c κs = tt
 
 check-u-cut-mul-to-b : (t : ℕ) → check-u-cut-lts.Need-mul-to-b (check-u-cut-calls t) (check-u-cut-at t) check-u-cut.Post
-check-u-cut-mul-to-b t c =
-    let start = c .before .before .before in
-    record { fits = u-numbers (start .pre .1 .0) (start .pre .1 .1) (c .before .even-half .ensures) .in-a }
+check-u-cut-mul-to-b t c = record { fits = u-numbers (c .before .before .before .pre) (c .before .even-half .ensures) .in-a }
 
 check-u-cut-add-to-b : (t : ℕ) → check-u-cut-lts.Need-add-to-b (check-u-cut-calls t) (check-u-cut-at t) check-u-cut.Post
-check-u-cut-add-to-b t c =
-    let start = c .before .before .before in
-    record { fits = u-numbers (start .pre .1 .0) (start .pre .1 .1) (c .before .even-half .ensures) .to-b }
+check-u-cut-add-to-b t c = record { fits = u-numbers (c .before .before .before .pre) (c .before .even-half .ensures) .to-b }
 
 check-u-cut-sub-to-c : (t : ℕ) → check-u-cut-lts.Need-sub-to-c (check-u-cut-calls t) (check-u-cut-at t) check-u-cut.Post
-check-u-cut-sub-to-c t c =
-    let even-half = c .before .before in
-    let start = even-half .before .before in
-    u-numbers (start .pre .1 .0) (start .pre .1 .1) (even-half .even-half .ensures) .half
+check-u-cut-sub-to-c t c = u-numbers (c .before .before .before .before .pre) (c .before .before .even-half .ensures) .half
 
 check-u-cut-mul-to-c : (t : ℕ) → check-u-cut-lts.Need-mul-to-c (check-u-cut-calls t) (check-u-cut-at t) check-u-cut.Post
-check-u-cut-mul-to-c t c =
-    let even-half = c .before .before .before in
-    let start = even-half .before .before in
-    record { fits = u-numbers (start .pre .1 .0) (start .pre .1 .1) (even-half .even-half .ensures) .in-b }
+check-u-cut-mul-to-c t c = record { fits = u-numbers (c .before .before .before .before .before .pre) (c .before .before .before .even-half .ensures) .in-b }
 
 check-u-cut-add-to-c : (t : ℕ) → check-u-cut-lts.Need-add-to-c (check-u-cut-calls t) (check-u-cut-at t) check-u-cut.Post
-check-u-cut-add-to-c t c =
-    let even-half = c .before .before .before in
-    let start = even-half .before .before in
-    record { fits = u-numbers (start .pre .1 .0) (start .pre .1 .1) (even-half .even-half .ensures) .to-c }
+check-u-cut-add-to-c t c = record { fits = u-numbers (c .before .before .before .before .before .pre) (c .before .before .before .even-half .ensures) .to-c }
 
 check-u-cut-part-a-requires : (t : ℕ) → check-u-cut-lts.Need-part-a-requires (check-u-cut-calls t) (check-u-cut-at t) check-u-cut.Post
-check-u-cut-part-a-requires t c κs =
-    let start = c .before .before .before .before .before in
-    (largest (start .pre .1 .0), start .pre .1 .1)
+check-u-cut-part-a-requires t c κs = part-asks (c .before .before .before .before .before .pre)
 
 check-u-cut-check-block-requires : (t : ℕ) → check-u-cut-lts.Need-check-block-requires (check-u-cut-calls t) (check-u-cut-at t) check-u-cut.Post
 check-u-cut-check-block-requires t c κs =
-    let even-half = c .before .before .before .before in
-    let start = even-half .before .before in
-    let next = a-call (start .pre .1 .0) (start .pre .1 .1) (even-half .even-half .ensures) (c .part-a .result) (c .part-a .ensures) in
-    (subst (λ (m : ℕ). 3 * (c .part-a .result .a * c .part-a .result .b) + 2 < m) (start .pre .0) (next .0), next .1)
+    let halved = c .before .before .before .before in
+    a-call (halved .before .before .pre) (halved .even-half .ensures) (c .part-a .result) (c .part-a .ensures)
 
 check-u-cut-part-b-requires : (t : ℕ) → check-u-cut-lts.Need-part-b-requires (check-u-cut-calls t) (check-u-cut-at t) check-u-cut.Post
 check-u-cut-part-b-requires t c κs =
-    let even-half = c .before .before .before .before .before in
-    let start = even-half .before .before in
-    (largest (start .pre .1 .0), start .pre .1 .1)
+    let halved = c .before .before .before .before .before in
+    part-asks (halved .before .before .pre)
 
 check-u-cut-check-block-requires-2 : (t : ℕ) → check-u-cut-lts.Need-check-block-requires-2 (check-u-cut-calls t) (check-u-cut-at t) check-u-cut.Post
 check-u-cut-check-block-requires-2 t c κs =
-    let even-half = c .before .before .before .before .before .before in
-    let start = even-half .before .before in
-    let next =
-    b-call (start .pre .1 .0) (start .pre .1 .1) (even-half .even-half .ensures) (start .args .table .now) refl (c .part-b .result) (c .part-b .ensures) in
-    (subst (λ (m : ℕ). 3 * (c .part-b .result .a * c .part-b .result .b) + 2 < m) (start .pre .0) (next .0), next .1)
+    let halved = c .before .before .before .before .before .before in
+    b-call (halved .before .before .pre) (halved .even-half .ensures) refl (c .part-b .result) (c .part-b .ensures)
 
 check-u-cut-part-c-requires : (t : ℕ) → check-u-cut-lts.Need-part-c-requires (check-u-cut-calls t) (check-u-cut-at t) check-u-cut.Post
 check-u-cut-part-c-requires t c κs =
     let part-a = c .before .before .before in
-    let start = part-a .before .before .before .before .before .before in
-    (largest (start .pre .1 .0), start .pre .1 .1)
+    part-asks (part-a .before .before .before .before .before .before .pre)
 
 check-u-cut-check-block-requires-3 : (t : ℕ) → check-u-cut-lts.Need-check-block-requires-3 (check-u-cut-calls t) (check-u-cut-at t) check-u-cut.Post
 check-u-cut-check-block-requires-3 t c κs =
     let part-a = c .before .before .before .before in
-    let even-half = part-a .before .before .before .before in
-    let start = even-half .before .before in
-    let next =
-    c-call (start .pre .1 .0) (start .pre .1 .1) (even-half .even-half .ensures) (start .args .table .now) refl (c .part-c .result) (c .part-c .ensures) in
-    (subst (λ (m : ℕ). 3 * (c .part-c .result .a * c .part-c .result .b) + 2 < m) (start .pre .0) (next .0), next .1)
+    let halved = part-a .before .before .before .before in
+    c-call (halved .before .before .pre) (halved .even-half .ensures) refl (c .part-c .result) (c .part-c .ensures)
 
 check-u-cut-returns : (t : ℕ) → check-u-cut-lts.Need-returns (check-u-cut-calls t) (check-u-cut-at t) check-u-cut.Post
 check-u-cut-returns t c =
-    let check-block2 = c .before .before in
-    let part-b = check-block2 .before in
-    let at-check-block = part-b .before in
-    let part-a = at-check-block .before in
-    let even-half = part-a .before .before .before .before in
-    let start = even-half .before .before in
-    let so-far = start .args .so-far in
-    let look = least-one (start .args .by-square) (start .args .table .now) in
-    let w = start .args .area .w in
-    let at = start .args .at in
-    let k = start .args .k in
-    let e = even-half .even-half .result in
-    c .check-block3 .ensures
-    ∙ ap₂ (λ l j. over-block look l w j (at + e * (k .a / 2) + k .a * (k .b - e)))
-    (check-block2 .check-block2 .ensures
-    ∙ ap₂ (λ l j. over-block look l w j (at + e * (k .a / 2)))
-    (at-check-block .check-block .ensures ∙ ap (λ j. over-block look so-far w j at) (part-a .part-a .ensures))
-    (part-b .part-b .ensures))
-    (c .before .part-c .ensures)
-    ∙ u-over (start .pre .1 .0) (start .pre .1 .1) (even-half .even-half .ensures) look so-far
+    let second = c .before .before in
+    let part-b = second .before in
+    let first = part-b .before in
+    let part-a = first .before in
+    let halved = part-a .before .before .before .before in
+    let start = halved .before .before in
+    u-steps (start .pre) (halved .even-half .ensures) (least-one (start .args .by-square) (start .args .table .now)) (start .args .so-far)
+    (part-a .part-a .ensures) (part-b .part-b .ensures) (c .before .part-c .ensures) (first .check-block .ensures) (second .check-block2 .ensures)
+    (c .check-block3 .ensures)
 
 pub +check-block+check-choice+check-long-cut+check-u-cut-spec : {M : Type 1} → statement M
 +check-block+check-choice+check-long-cut+check-u-cut-spec =

@@ -1,15 +1,14 @@
 -- The four functions of a fill meet their contracts, by the laws of `Parts` and `Counts`: the parts' entries in order are the block's. The measure is three
 -- times the block's area, plus 0 for a cut, 1 for `fill_choice` and 2 for `fill_block`: block, choice and cut are three calls on one block.
-use mathlib.Core.Path.{sym, ap, ap₂, subst, _∙_}
-use Prim.Native.Nat.{ℕ, _+_, _-_, _*_, _/_, _<_}
+use mathlib.Core.Path.{sym, _∙_}
+use Prim.Native.Nat.{ℕ, _+_, _*_, _<_}
 use native.Mathlib.Omega.{arith}
-use lib.ListN.{length}
-use Rattle.division.specs.Division.{blocks}
 use Rattle.division.proofs.Walks.{a-limit, b-limit}
-use Rattle.leaves.specs.Walk.{enter-one, filled-with}
+use Rattle.leaves.specs.Walk.{enter-one}
 use Rattle.leaves.proofs.Entries.{largest}
-use Rattle.leaves.proofs.Parts.{first-call, second-call, second-number, long-over, a-call, b-call, c-call, u-deep, u-numbers, u-over, side-call, side-over}
-use Rattle.fills.proofs.Counts.{long-count, long-fits, u-count, u-fits, side-count}
+use Rattle.leaves.proofs.Parts.{to-cut, part-asks, first-call, second-call, second-number, long-steps, a-call, b-call, c-call, u-deep, u-numbers, u-steps}
+use Rattle.leaves.proofs.Parts.{side-call, side-over}
+use Rattle.fills.proofs.Counts.{few, long-count, u-count, side-count}
 use borrow.Fn.Kinds.{In}
 use borrow.Fn.PlainCycle.{Measures, is, falls, and}
 use Rattle.fills.proofs.fill_block.Reads as fill-block
@@ -169,8 +168,7 @@ fill-choice-enum-told-3 t c = c .match .keys3
 fill-choice-fill-long-cut-requires : (t : ℕ) → fill-choice-lts.Need-fill-long-cut-requires (fill-choice-calls t) (fill-choice-at t) fill-choice.Post
 fill-choice-fill-long-cut-requires t c κs =
     let choose = c .before .before .before in
-    let start = choose .before .before in
-    (let m = start .pre .0 in omega arith, (start .pre .1, (sym (choose .choose .ensures) ∙ c .before .enum-told3 .given .1)))
+    to-cut (choose .before .before .pre) (choose .choose .ensures) (c .before .enum-told3 .given .1)
 
 fill-choice-enum-told-4 : (t : ℕ) → fill-choice-lts.Need-enum-told-4 (fill-choice-calls t) (fill-choice-at t) fill-choice.Post
 fill-choice-enum-told-4 t c = c .match .keys4
@@ -192,10 +190,9 @@ fill-choice-returns t c = c .before .before .fill-leaf .ensures
 
 fill-choice-fill-u-cut-requires : (t : ℕ) → fill-choice-lts.Need-fill-u-cut-requires (fill-choice-calls t) (fill-choice-at t) fill-choice.Post
 fill-choice-fill-u-cut-requires t c κs =
-    let told4 = c .before .before in
-    let choose = told4 .before .before in
-    let start = choose .before .before in
-    (let m = start .pre .0 in omega arith, (start .pre .1, (sym (choose .choose .ensures) ∙ told4 .enum-told4 .given .1)))
+    let told = c .before .before in
+    let choose = told .before .before in
+    to-cut (choose .before .before .pre) (choose .choose .ensures) (told .enum-told4 .given .1)
 
 fill-choice-same-length-2 : (t : ℕ) → fill-choice-lts.Need-same-length-2 (fill-choice-calls t) (fill-choice-at t) fill-choice.Post
 fill-choice-same-length-2 t c = c .before .before .fill-run .kept .0
@@ -236,227 +233,151 @@ fill-long-cut-even-half-requires : (t : ℕ) → fill-long-cut-lts.Need-even-hal
 fill-long-cut-even-half-requires t c κs = tt
 
 fill-long-cut-mul-to-second : (t : ℕ) → fill-long-cut-lts.Need-mul-to-second (fill-long-cut-calls t) (fill-long-cut-at t) fill-long-cut.Post
-fill-long-cut-mul-to-second t c =
-    let start = c .before .before .before in
-    record { fits = second-number (start .pre .1 .0) (start .pre .1 .1) (c .before .even-half .ensures) .0 }
+fill-long-cut-mul-to-second t c = record { fits = second-number (c .before .before .before .pre) (c .before .even-half .ensures) .0 }
 
 fill-long-cut-add-to-second : (t : ℕ) → fill-long-cut-lts.Need-add-to-second (fill-long-cut-calls t) (fill-long-cut-at t) fill-long-cut.Post
-fill-long-cut-add-to-second t c =
-    let start = c .before .before .before in
-    record { fits = second-number (start .pre .1 .0) (start .pre .1 .1) (c .before .even-half .ensures) .1 }
+fill-long-cut-add-to-second t c = record { fits = second-number (c .before .before .before .pre) (c .before .even-half .ensures) .1 }
 
 fill-long-cut-long-part-requires : (t : ℕ) → fill-long-cut-lts.Need-long-part-requires (fill-long-cut-calls t) (fill-long-cut-at t) fill-long-cut.Post
-fill-long-cut-long-part-requires t c κs =
-    let start = c .before .before .before .before in
-    (largest (start .pre .1 .0), start .pre .1 .1)
+fill-long-cut-long-part-requires t c κs = part-asks (c .before .before .before .before .pre)
 
 fill-long-cut-fill-block-requires : (t : ℕ) → fill-long-cut-lts.Need-fill-block-requires (fill-long-cut-calls t) (fill-long-cut-at t) fill-long-cut.Post
 fill-long-cut-fill-block-requires t c κs =
-    let even-half = c .before .before .before in
-    let start = even-half .before .before in
-    let next = first-call (start .pre .1 .0) (start .pre .1 .1) (even-half .even-half .ensures) (c .long-part .result) (c .long-part .ensures) in
-    (subst (λ (m : ℕ). 3 * (c .long-part .result .a * c .long-part .result .b) + 2 < m) (start .pre .0) (next .0), next .1)
+    let halved = c .before .before .before in
+    first-call (halved .before .before .pre) (halved .even-half .ensures) (c .long-part .result) (c .long-part .ensures)
 
 fill-long-cut-long-part-requires-2 : (t : ℕ) → fill-long-cut-lts.Need-long-part-requires-2 (fill-long-cut-calls t) (fill-long-cut-at t) fill-long-cut.Post
 fill-long-cut-long-part-requires-2 t c κs =
-    let long-part = c .before .before .before .before in
-    let start = long-part .before .before .before .before .before in
-    (largest (start .pre .1 .0), start .pre .1 .1)
+    let first = c .before .before .before in
+    part-asks (first .before .before .before .before .before .before .pre)
 
 fill-long-cut-fill-block-requires-2 : (t : ℕ) → fill-long-cut-lts.Need-fill-block-requires-2 (fill-long-cut-calls t) (fill-long-cut-at t) fill-long-cut.Post
 fill-long-cut-fill-block-requires-2 t c κs =
-    let at-fill-block = c .before .before .before .before in
-    let even-half = at-fill-block .before .before .before .before in
-    let start = even-half .before .before in
-    let next =
-    second-call (start .pre .1 .0) (start .pre .1 .1) (even-half .even-half .ensures) (at-fill-block .fill-block .last .0) (at-fill-block .fill-block .kept .0)
-    (c .long-part2 .result) (c .long-part2 .ensures) in
-    (subst (λ (m : ℕ). 3 * (c .long-part2 .result .a * c .long-part2 .result .b) + 2 < m) (start .pre .0) (next .0), next .1)
-
-fill-long-cut-add-result-2 : (t : ℕ) → fill-long-cut-lts.Need-add-result-2 (fill-long-cut-calls t) (fill-long-cut-at t) fill-long-cut.Post
-fill-long-cut-add-result-2 t c =
-    let fill-block2 = c .before .before in
-    let long-part2 = fill-block2 .before in
-    let at-fill-block = long-part2 .before .before .before .before in
-    let long-part = at-fill-block .before in
-    let start = long-part .before .before .before .before .before in
-    let all =
-    long-fits (start .pre .1 .0) (start .pre .1 .1) (at-fill-block .fill-block .ensures .1 ∙ ap (λ j. length (blocks j)) (long-part .long-part .ensures))
-    (fill-block2 .fill-block2 .ensures .1 ∙ ap (λ j. length (blocks j)) (long-part2 .long-part2 .ensures)) in
-    record { fits = omega arith }
-
-fill-long-cut-add-result : (t : ℕ) → fill-long-cut-lts.Need-add-result (fill-long-cut-calls t) (fill-long-cut-at t) fill-long-cut.Post
-fill-long-cut-add-result t c = record { fits = let all = fill-long-cut-add-result-2 t c .fits in omega arith }
+    let first = c .before .before .before .before in
+    let halved = first .before .before .before .before in
+    second-call (halved .before .before .pre) (halved .even-half .ensures) (first .fill-block .kept .0) (c .long-part2 .result) (c .long-part2 .ensures)
 
 fill-long-cut-same-length : (t : ℕ) → fill-long-cut-lts.Need-same-length (fill-long-cut-calls t) (fill-long-cut-at t) fill-long-cut.Post
 fill-long-cut-same-length t c =
-    let fill-block2 = c .before .before in
-    fill-block2 .fill-block2 .kept .0 ∙ fill-block2 .before .before .before .before .before .fill-block .kept .0
+    let second = c .before .before in
+    second .fill-block2 .kept .0 ∙ second .before .before .before .before .before .fill-block .kept .0
 
 fill-long-cut-returns : (t : ℕ) → fill-long-cut-lts.Need-returns (fill-long-cut-calls t) (fill-long-cut-at t) fill-long-cut.Post
 fill-long-cut-returns t c =
-    let fill-block2 = c .before .before in
-    let long-part2 = fill-block2 .before in
-    let at-fill-block = long-part2 .before .before .before .before in
-    let long-part = at-fill-block .before in
-    let even-half = long-part .before .before .before in
-    let start = even-half .before .before in
-    let room = start .pre .1 .0 in
-    let cut = start .pre .1 .1 in
-    let at = start .args .at in
-    let table = start .args .table .now in
-    let by-square = start .args .by-square in
-    let w = start .args .area .w in
-    let first = long-part .long-part .ensures in
-    let second = long-part2 .long-part2 .ensures in (
-      fill-block2 .fill-block2 .ensures .0
-          ∙ ap₂ (λ t j. filled-with by-square w t j (at + even-half .even-half .result * start .args .k .b))
-          (at-fill-block .fill-block .ensures .0 ∙ ap (λ j. filled-with by-square w table j at) first)
-          second
-          ∙ long-over room cut (even-half .even-half .ensures) (enter-one by-square) table,
-      long-count room cut (at-fill-block .fill-block .ensures .1 ∙ ap (λ j. length (blocks j)) first)
-          (fill-block2 .fill-block2 .ensures .1 ∙ ap (λ j. length (blocks j)) second),
+    let second = c .before .before in
+    let second-part = second .before in
+    let first = second-part .before .before .before .before in
+    let first-part = first .before in
+    let halved = first-part .before .before .before in
+    let start = halved .before .before in
+    let is-first = first-part .long-part .ensures in
+    let is-second = second-part .long-part2 .ensures in (
+      long-steps (start .pre) (halved .even-half .ensures) (enter-one (start .args .by-square)) (start .args .table .now) is-first is-second
+          (first .fill-block .ensures .0) (second .fill-block2 .ensures .0),
+      long-count (start .pre) is-first is-second (first .fill-block .ensures .1) (second .fill-block2 .ensures .1),
     )
+
+-- the sums are at most the count that is returned
+fill-long-cut-add-result-2 : (t : ℕ) → fill-long-cut-lts.Need-add-result-2 (fill-long-cut-calls t) (fill-long-cut-at t) fill-long-cut.Post
+fill-long-cut-add-result-2 t c =
+    let second = c .before .before in
+    let first = second .before .before .before .before .before in
+    let halved = first .before .before .before .before in
+    record { fits = let count = fill-long-cut-returns t c .1 in let most = few (halved .before .before .pre .1 .0) in omega arith }
+
+fill-long-cut-add-result : (t : ℕ) → fill-long-cut-lts.Need-add-result (fill-long-cut-calls t) (fill-long-cut-at t) fill-long-cut.Post
+fill-long-cut-add-result t c = record { fits = let all = fill-long-cut-add-result-2 t c .fits in omega arith }
 
 fill-u-cut-even-half-requires : (t : ℕ) → fill-u-cut-lts.Need-even-half-requires (fill-u-cut-calls t) (fill-u-cut-at t) fill-u-cut.Post
 fill-u-cut-even-half-requires t c κs = tt
 
 fill-u-cut-mul-to-b : (t : ℕ) → fill-u-cut-lts.Need-mul-to-b (fill-u-cut-calls t) (fill-u-cut-at t) fill-u-cut.Post
-fill-u-cut-mul-to-b t c =
-    let start = c .before .before .before in
-    record { fits = u-numbers (start .pre .1 .0) (start .pre .1 .1) (c .before .even-half .ensures) .in-a }
+fill-u-cut-mul-to-b t c = record { fits = u-numbers (c .before .before .before .pre) (c .before .even-half .ensures) .in-a }
 
 fill-u-cut-add-to-b : (t : ℕ) → fill-u-cut-lts.Need-add-to-b (fill-u-cut-calls t) (fill-u-cut-at t) fill-u-cut.Post
-fill-u-cut-add-to-b t c =
-    let start = c .before .before .before in
-    record { fits = u-numbers (start .pre .1 .0) (start .pre .1 .1) (c .before .even-half .ensures) .to-b }
+fill-u-cut-add-to-b t c = record { fits = u-numbers (c .before .before .before .pre) (c .before .even-half .ensures) .to-b }
 
 fill-u-cut-sub-to-c : (t : ℕ) → fill-u-cut-lts.Need-sub-to-c (fill-u-cut-calls t) (fill-u-cut-at t) fill-u-cut.Post
-fill-u-cut-sub-to-c t c =
-    let even-half = c .before .before in
-    let start = even-half .before .before in
-    u-numbers (start .pre .1 .0) (start .pre .1 .1) (even-half .even-half .ensures) .half
+fill-u-cut-sub-to-c t c = u-numbers (c .before .before .before .before .pre) (c .before .before .even-half .ensures) .half
 
 fill-u-cut-mul-to-c : (t : ℕ) → fill-u-cut-lts.Need-mul-to-c (fill-u-cut-calls t) (fill-u-cut-at t) fill-u-cut.Post
-fill-u-cut-mul-to-c t c =
-    let even-half = c .before .before .before in
-    let start = even-half .before .before in
-    record { fits = u-numbers (start .pre .1 .0) (start .pre .1 .1) (even-half .even-half .ensures) .in-b }
+fill-u-cut-mul-to-c t c = record { fits = u-numbers (c .before .before .before .before .before .pre) (c .before .before .before .even-half .ensures) .in-b }
 
 fill-u-cut-add-to-c : (t : ℕ) → fill-u-cut-lts.Need-add-to-c (fill-u-cut-calls t) (fill-u-cut-at t) fill-u-cut.Post
-fill-u-cut-add-to-c t c =
-    let even-half = c .before .before .before in
-    let start = even-half .before .before in
-    record { fits = u-numbers (start .pre .1 .0) (start .pre .1 .1) (even-half .even-half .ensures) .to-c }
+fill-u-cut-add-to-c t c = record { fits = u-numbers (c .before .before .before .before .before .pre) (c .before .before .before .even-half .ensures) .to-c }
 
 fill-u-cut-part-a-requires : (t : ℕ) → fill-u-cut-lts.Need-part-a-requires (fill-u-cut-calls t) (fill-u-cut-at t) fill-u-cut.Post
-fill-u-cut-part-a-requires t c κs =
-    let start = c .before .before .before .before .before .before in
-    (largest (start .pre .1 .0), start .pre .1 .1)
+fill-u-cut-part-a-requires t c κs = part-asks (c .before .before .before .before .before .before .pre)
 
 fill-u-cut-fill-block-requires : (t : ℕ) → fill-u-cut-lts.Need-fill-block-requires (fill-u-cut-calls t) (fill-u-cut-at t) fill-u-cut.Post
 fill-u-cut-fill-block-requires t c κs =
-    let even-half = c .before .before .before .before .before in
-    let start = even-half .before .before in
-    let next = a-call (start .pre .1 .0) (start .pre .1 .1) (even-half .even-half .ensures) (c .part-a .result) (c .part-a .ensures) in
-    (subst (λ (m : ℕ). 3 * (c .part-a .result .a * c .part-a .result .b) + 2 < m) (start .pre .0) (next .0), next .1)
+    let halved = c .before .before .before .before .before in
+    a-call (halved .before .before .pre) (halved .even-half .ensures) (c .part-a .result) (c .part-a .ensures)
 
 fill-u-cut-part-b-requires : (t : ℕ) → fill-u-cut-lts.Need-part-b-requires (fill-u-cut-calls t) (fill-u-cut-at t) fill-u-cut.Post
 fill-u-cut-part-b-requires t c κs =
-    let part-a = c .before .before .before .before in
-    let even-half = part-a .before .before .before .before .before in
-    let start = even-half .before .before in
-    (largest (start .pre .1 .0), start .pre .1 .1)
+    let first = c .before .before .before in
+    let halved = first .before .before .before .before .before .before in
+    part-asks (halved .before .before .pre)
 
 fill-u-cut-fill-block-requires-2 : (t : ℕ) → fill-u-cut-lts.Need-fill-block-requires-2 (fill-u-cut-calls t) (fill-u-cut-at t) fill-u-cut.Post
 fill-u-cut-fill-block-requires-2 t c κs =
-    let at-fill-block = c .before .before .before .before in
-    let even-half = at-fill-block .before .before .before .before .before .before in
-    let start = even-half .before .before in
-    let next =
-    b-call (start .pre .1 .0) (start .pre .1 .1) (even-half .even-half .ensures) (at-fill-block .fill-block .last .0) (at-fill-block .fill-block .kept .0)
-    (c .part-b .result) (c .part-b .ensures) in
-    (subst (λ (m : ℕ). 3 * (c .part-b .result .a * c .part-b .result .b) + 2 < m) (start .pre .0) (next .0), next .1)
+    let first = c .before .before .before .before in
+    let halved = first .before .before .before .before .before .before in
+    b-call (halved .before .before .pre) (halved .even-half .ensures) (first .fill-block .kept .0) (c .part-b .result) (c .part-b .ensures)
 
 fill-u-cut-part-c-requires : (t : ℕ) → fill-u-cut-lts.Need-part-c-requires (fill-u-cut-calls t) (fill-u-cut-at t) fill-u-cut.Post
 fill-u-cut-part-c-requires t c κs =
-    let part-b = c .before .before .before .before in
-    let part-a = part-b .before .before .before .before .before in
-    let even-half = part-a .before .before .before .before .before in
-    let start = even-half .before .before in
-    (largest (start .pre .1 .0), start .pre .1 .1)
+    let second = c .before .before .before in
+    let first = second .before .before .before .before .before in
+    let halved = first .before .before .before .before .before .before in
+    part-asks (halved .before .before .pre)
 
 fill-u-cut-fill-block-requires-3 : (t : ℕ) → fill-u-cut-lts.Need-fill-block-requires-3 (fill-u-cut-calls t) (fill-u-cut-at t) fill-u-cut.Post
 fill-u-cut-fill-block-requires-3 t c κs =
-    let fill-block2 = c .before .before .before .before in
-    let at-fill-block = fill-block2 .before .before .before .before .before in
-    let even-half = at-fill-block .before .before .before .before .before .before in
-    let start = even-half .before .before in
-    let next =
-    c-call (start .pre .1 .0) (start .pre .1 .1) (even-half .even-half .ensures) (fill-block2 .fill-block2 .last .0)
-    (fill-block2 .fill-block2 .kept .0 ∙ at-fill-block .fill-block .kept .0) (c .part-c .result) (c .part-c .ensures) in
-    (subst (λ (m : ℕ). 3 * (c .part-c .result .a * c .part-c .result .b) + 2 < m) (start .pre .0) (next .0), next .1)
+    let second = c .before .before .before .before in
+    let first = second .before .before .before .before .before in
+    let halved = first .before .before .before .before .before .before in
+    c-call (halved .before .before .pre) (halved .even-half .ensures) (second .fill-block2 .kept .0 ∙ first .fill-block .kept .0) (c .part-c .result)
+    (c .part-c .ensures)
+
+fill-u-cut-same-length : (t : ℕ) → fill-u-cut-lts.Need-same-length (fill-u-cut-calls t) (fill-u-cut-at t) fill-u-cut.Post
+fill-u-cut-same-length t c =
+    let third = c .before .before in
+    let second = third .before .before .before .before .before in
+    third .fill-block3 .kept .0 ∙ second .fill-block2 .kept .0 ∙ second .before .before .before .before .before .fill-block .kept .0
+
+fill-u-cut-returns : (t : ℕ) → fill-u-cut-lts.Need-returns (fill-u-cut-calls t) (fill-u-cut-at t) fill-u-cut.Post
+fill-u-cut-returns t c =
+    let third = c .before .before in
+    let part-c = third .before in
+    let second = part-c .before .before .before .before in
+    let part-b = second .before in
+    let first = part-b .before .before .before .before in
+    let part-a = first .before in
+    let halved = part-a .before .before .before .before .before in
+    let start = halved .before .before in
+    let is-a = part-a .part-a .ensures in
+    let is-b = part-b .part-b .ensures in
+    let is-c = part-c .part-c .ensures in (
+      u-steps (start .pre) (halved .even-half .ensures) (enter-one (start .args .by-square)) (start .args .table .now) is-a is-b is-c
+          (first .fill-block .ensures .0) (second .fill-block2 .ensures .0) (third .fill-block3 .ensures .0),
+      u-count (start .pre) is-a is-b is-c (first .fill-block .ensures .1) (second .fill-block2 .ensures .1) (third .fill-block3 .ensures .1),
+    )
 
 fill-u-cut-add-result-3 : (t : ℕ) → fill-u-cut-lts.Need-add-result-3 (fill-u-cut-calls t) (fill-u-cut-at t) fill-u-cut.Post
 fill-u-cut-add-result-3 t c =
-    let fill-block3 = c .before .before in
-    let part-c = fill-block3 .before in
-    let fill-block2 = part-c .before .before .before .before in
-    let part-b = fill-block2 .before in
-    let at-fill-block = part-b .before .before .before .before in
-    let part-a = at-fill-block .before in
-    let even-half = part-a .before .before .before .before .before in
-    let start = even-half .before .before in
-    let all =
-    u-fits (start .pre .1 .0) (start .pre .1 .1) (at-fill-block .fill-block .ensures .1 ∙ ap (λ j. length (blocks j)) (part-a .part-a .ensures))
-    (fill-block2 .fill-block2 .ensures .1 ∙ ap (λ j. length (blocks j)) (part-b .part-b .ensures))
-    (fill-block3 .fill-block3 .ensures .1 ∙ ap (λ j. length (blocks j)) (part-c .part-c .ensures)) in
-    record { fits = omega arith }
+    let third = c .before .before in
+    let second = third .before .before .before .before .before in
+    let first = second .before .before .before .before .before in
+    let halved = first .before .before .before .before .before .before in
+    record { fits = let count = fill-u-cut-returns t c .1 in let most = few (halved .before .before .pre .1 .0) in omega arith }
 
 fill-u-cut-add-result-2 : (t : ℕ) → fill-u-cut-lts.Need-add-result-2 (fill-u-cut-calls t) (fill-u-cut-at t) fill-u-cut.Post
 fill-u-cut-add-result-2 t c = record { fits = let all = fill-u-cut-add-result-3 t c .fits in omega arith }
 
 fill-u-cut-add-result : (t : ℕ) → fill-u-cut-lts.Need-add-result (fill-u-cut-calls t) (fill-u-cut-at t) fill-u-cut.Post
 fill-u-cut-add-result t c = record { fits = let all = fill-u-cut-add-result-3 t c .fits in omega arith }
-
-fill-u-cut-same-length : (t : ℕ) → fill-u-cut-lts.Need-same-length (fill-u-cut-calls t) (fill-u-cut-at t) fill-u-cut.Post
-fill-u-cut-same-length t c =
-    let fill-block3 = c .before .before in
-    let fill-block2 = fill-block3 .before .before .before .before .before in
-    fill-block3 .fill-block3 .kept .0 ∙ fill-block2 .fill-block2 .kept .0 ∙ fill-block2 .before .before .before .before .before .fill-block .kept .0
-
-fill-u-cut-returns : (t : ℕ) → fill-u-cut-lts.Need-returns (fill-u-cut-calls t) (fill-u-cut-at t) fill-u-cut.Post
-fill-u-cut-returns t c =
-    let fill-block3 = c .before .before in
-    let part-c = fill-block3 .before in
-    let fill-block2 = part-c .before .before .before .before in
-    let part-b = fill-block2 .before in
-    let at-fill-block = part-b .before .before .before .before in
-    let part-a = at-fill-block .before in
-    let even-half = part-a .before .before .before .before .before in
-    let start = even-half .before .before in
-    let room = start .pre .1 .0 in
-    let cut = start .pre .1 .1 in
-    let table = start .args .table .now in
-    let by-square = start .args .by-square in
-    let w = start .args .area .w in
-    let at = start .args .at in
-    let k = start .args .k in
-    let e = even-half .even-half .result in
-    let a = part-a .part-a .ensures in
-    let b = part-b .part-b .ensures in
-    let d = part-c .part-c .ensures in (
-      fill-block3 .fill-block3 .ensures .0
-          ∙ ap₂ (λ t j. filled-with by-square w t j (at + e * (k .a / 2) + k .a * (k .b - e)))
-          (fill-block2 .fill-block2 .ensures .0
-          ∙ ap₂ (λ t j. filled-with by-square w t j (at + e * (k .a / 2)))
-          (at-fill-block .fill-block .ensures .0 ∙ ap (λ j. filled-with by-square w table j at) a)
-          b)
-          d
-          ∙ u-over room cut (even-half .even-half .ensures) (enter-one by-square) table,
-      u-count room cut (at-fill-block .fill-block .ensures .1 ∙ ap (λ j. length (blocks j)) a)
-          (fill-block2 .fill-block2 .ensures .1 ∙ ap (λ j. length (blocks j)) b) (fill-block3 .fill-block3 .ensures .1 ∙ ap (λ j. length (blocks j)) d),
-    )
 
 pub +fill-block+fill-choice+fill-long-cut+fill-u-cut-spec : {M : Type 1} → statement M
 +fill-block+fill-choice+fill-long-cut+fill-u-cut-spec =

@@ -8,37 +8,37 @@ use Rattle.words.proofs.Numerals.{due, due-on, due-low, due-high, due-e
 use Rattle.words.proofs.digits_value.Statement.{statement}
 use Rattle.words.proofs.digits_value.Tie as tie
 
-abbrev Inv-loop : tie.InvT-loop
-Inv-loop s v₀ i₀ i-end v i = (i ≤ i-end) × (v < 10 ^ i) × (due v (drop i s) ≡ due 0 s)
+abbrev Inv-due : tie.InvT-loop
+Inv-due s v₀ i₀ i-end v i = (i ≤ i-end) × (v < 10 ^ i) × (due v (drop i s) ≡ due 0 s)
 
-abbrev μ-loop : tie.MeasureT-loop
-μ-loop s v₀ i₀ i-end v i = i-end - i
+abbrev μ-left : tie.MeasureT-loop
+μ-left s v₀ i₀ i-end v i = i-end - i
 
-loop-holds : tie.Need-loop-holds Inv-loop μ-loop
+loop-holds : tie.Need-loop-holds Inv-due μ-left
 loop-holds c = (omega arith, omega arith, refl)
 
-shared-slice-read-b : tie.Need-shared-slice-read-b Inv-loop μ-loop
+shared-slice-read-b : tie.Need-shared-slice-read-b Inv-due μ-left
 shared-slice-read-b c = c .before .loop-test .taken
 
-returns : tie.Need-returns Inv-loop μ-loop
+returns : tie.Need-returns Inv-due μ-left
 returns c = due-low _ _ _ (c .before .before .loop-test .taken) (c .if1 .taken) ∙ c .before .before .before .loop .inv .2
 
-returns-2 : tie.Need-returns-2 Inv-loop μ-loop
+returns-2 : tie.Need-returns-2 Inv-due μ-left
 returns-2 c =
     let test = c .before .before .before in
     due-high _ _ _ (test .loop-test .taken) (c .before .if1 .left) (c .if2 .taken) ∙ test .before .loop .inv .2
 
-mul-v : tie.Need-mul-v Inv-loop μ-loop
+mul-v : tie.Need-mul-v Inv-due μ-left
 mul-v c =
     let test = c .before .before .before in
     let turn = test .before in
     let start = turn .before in
     record { fits = let few = ten-digits _ _ (turn .loop .inv .1) (let l = test .loop-test .taken in let most = start .pre in omega arith) in omega arith }
 
-cast-v : tie.Need-cast-v Inv-loop μ-loop
+cast-v : tie.Need-cast-v Inv-due μ-left
 cast-v c = record { fits = let high = c .if2 .left in omega arith }
 
-add-v : tie.Need-add-v Inv-loop μ-loop
+add-v : tie.Need-add-v Inv-due μ-left
 add-v c =
     let test = c .before .before .before in
     let turn = test .before in
@@ -48,13 +48,13 @@ add-v c =
           let high = c .if2 .left in omega arith;
     }
 
-add-i : tie.Need-add-i Inv-loop μ-loop
+add-i : tie.Need-add-i Inv-due μ-left
 add-i c = record { fits = let l = c .before .before .before .loop-test .taken in omega arith }
 
-loop-less : tie.Need-loop-less Inv-loop μ-loop
+loop-less : tie.Need-loop-less Inv-due μ-left
 loop-less c = let l = c .before .before .before .loop-test .taken in omega arith
 
-loop-again : tie.Need-loop-again Inv-loop μ-loop
+loop-again : tie.Need-loop-again Inv-due μ-left
 loop-again c =
     let test = c .before .before .before in
     let turn = test .before in
@@ -63,7 +63,7 @@ loop-again c =
     let high = c .if2 .left in
     (omega arith, below-ten _ _ _ (turn .loop .inv .1) (omega arith), due-on _ _ _ l low high ∙ turn .loop .inv .2)
 
-returns-3 : tie.Need-returns-3 Inv-loop μ-loop
+returns-3 : tie.Need-returns-3 Inv-due μ-left
 returns-3 c =
     let turn = c .before in
     let start = turn .before in
@@ -74,8 +74,8 @@ pub digits-value-spec : {M : Type 1} → statement M
 digits-value-spec =
     tie.close
     (tie.spec
-    Inv-loop
-    μ-loop
+    Inv-due
+    μ-left
     loop-holds
     shared-slice-read-b
     returns
