@@ -36,10 +36,10 @@ module _ (d : Desk) (kept : List ℕ) (b : ℕ) where
   abbrev Next : Desk → List ℕ → List ℕ → Type 0
   Next d′ kept′ printed = (d′ ≡ next-desk d kept b) × (kept′ ≡ next-kept d kept b) × (printed ≡ prints d kept b)
 
-  pub when-over : d .over ≡ true → Next d kept []
-  when-over o = (sym (rw o), sym (rw o), sym (rw o))
+  pub when-closed : d .closed ≡ true → Next d kept []
+  when-closed o = (sym (rw o), sym (rw o), sym (rw o))
 
-  module _ (o : d .over ≡ false) where
+  module _ (o : d .closed ≡ false) where
     pub at-the-stop : 65535 < d .line → Next (stopped d) kept (stop (d .line))
     at-the-stop l = let past = lt-ltb 65535 (d .line) l in (sym (rw (o, past)), sym (rw (o, past)), sym (rw (o, past)))
 

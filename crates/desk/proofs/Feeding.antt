@@ -46,7 +46,7 @@ fed-end d kept at size chunk i l = rw (drop-of-length-le chunk l) refl
 
 -- a desk that is in order stays so
 ordered-by : (d : Desk) (kept : List ℕ) (b : ℕ) (o s e f : Bool) → ltb 64 (d .begun) ≡ f → d .begun ≤ 65
-    → cond o d (cond s (stopped d) (cond e (behind-newline d kept) (cond f d (record { clerk = d .clerk; line = d .line; begun = d .begun + 1; over = false })))) .begun ≤ 65
+    → cond o d (cond s (stopped d) (cond e (behind-newline d kept) (cond f d (record { clerk = d .clerk; line = d .line; begun = d .begun + 1; closed = false })))) .begun ≤ 65
 ordered-by d kept b true s e f p l = l
 ordered-by d kept b false true e f p l = l
 ordered-by d kept b false false true f p l = omega arith
@@ -54,7 +54,7 @@ ordered-by d kept b false false false true p l = l
 ordered-by d kept b false false false false p l = let few = ltb-false 64 (d .begun) p in omega arith
 
 pub still-ordered : (d : Desk) (kept : List ℕ) (b : ℕ) → d .begun ≤ 65 → next-desk d kept b .begun ≤ 65
-still-ordered d kept b l = ordered-by d kept b (d .over) (ltb 65535 (d .line)) (eqb b 10) (ltb 64 (d .begun)) refl l
+still-ordered d kept b l = ordered-by d kept b (d .closed) (ltb 65535 (d .line)) (eqb b 10) (ltb 64 (d .begun)) refl l
 
 -- and what is kept has its length
 pub kept-length : (d : Desk) (kept : List ℕ) (b : ℕ) (o s e f : Bool) → length (cond o kept (cond s kept (cond e kept (cond f kept (set kept (d .begun) b))))) ≡ length kept

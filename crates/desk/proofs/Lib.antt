@@ -1,8 +1,8 @@
 pub mod Bytes
 pub mod Feeding
-pub mod Going
+pub mod Progress
 pub mod Stream
-pub mod Attached
+pub mod Calls
 pub mod Sentences
 pub mod Example
 pub mod Promises

@@ -48,19 +48,19 @@ repeats-its-first promise =
     omega arith
 
 -- Turned away, of `opened`: one that counts the lines from 0, and one that reads none.
-pub counts-from-nothing : record { clerk = NoArea; line = 0; begun = 0; over = false } ≡ at-first → ⊥
+pub counts-from-nothing : record { clerk = NoArea; line = 0; begun = 0; closed = false } ≡ at-first → ⊥
 counts-from-nothing promise = let other : _≡_ {A = ℕ} 0 1 = ap (λ (d : Desk). d .line) promise in omega arith
 
-pub reads-none : record { clerk = NoArea; line = 1; begun = 0; over = true } ≡ at-first → ⊥
-reads-none promise = let other : _≡_ {A = ℕ} 1 0 = ap (λ (d : Desk). bit (d .over)) promise in omega arith
+pub reads-none : record { clerk = NoArea; line = 1; begun = 0; closed = true } ≡ at-first → ⊥
+reads-none promise = let other : _≡_ {A = ℕ} 1 0 = ap (λ (d : Desk). bit (d .closed)) promise in omega arith
 
 -- Turned away, of `closed`: one that leaves the desk reading, and one that closes it but forgets where it stood.
 pub reads-on : ((d : Desk) → d ≡ stopped d) → ⊥
-reads-on promise = let other : _≡_ {A = ℕ} 0 1 = ap (λ (d : Desk). bit (d .over)) (promise at-first) in omega arith
+reads-on promise = let other : _≡_ {A = ℕ} 0 1 = ap (λ (d : Desk). bit (d .closed)) (promise at-first) in omega arith
 
-pub begins-anew : ((d : Desk) → record { clerk = NoArea; line = 1; begun = 0; over = true } ≡ stopped d) → ⊥
+pub begins-anew : ((d : Desk) → record { clerk = NoArea; line = 1; begun = 0; closed = true } ≡ stopped d) → ⊥
 begins-anew promise =
-    let second : Desk = record { clerk = NoArea; line = 2; begun = 0; over = false } in
+    let second : Desk = record { clerk = NoArea; line = 2; begun = 0; closed = false } in
     let other : _≡_ {A = ℕ} 1 2 = ap (λ (d : Desk). d .line) (promise second) in
     omega arith
 
@@ -69,7 +69,7 @@ abbrev last-of : Desk → List ℕ
 last-of d = if-room (replicate longest 0) 0 (prints-last-any d (replicate 65 0))
 
 abbrev with-begun : ℕ → Desk
-with-begun n = record { clerk = NoArea; line = 1; begun = n; over = false }
+with-begun n = record { clerk = NoArea; line = 1; begun = n; closed = false }
 
 pub last-line-lost : ((d : Desk) → Writes (replicate longest 0) 0 (last-of d) (replicate longest 0) 0) → ⊥
 unfolding text decimal decimal-by reply request shaped fields same-bytes

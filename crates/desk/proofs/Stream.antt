@@ -20,8 +20,8 @@ use Rattle.desk.specs.Desk.{lines-of, answers, output}
 use Rattle.desk.specs.Steps.{begun-line, at-first, next-desk, next-kept, prints, prints-last, Result, still, onward, fed, in-order, fed-any, prints-last-any}
 use Rattle.desk.specs.Runs.{Printed, ended, closed, piece-fed}
 use Rattle.desk.proofs.Feeding.{still-ordered, kept-length}
-use Rattle.desk.proofs.Going.{is-fed, fed-in-order}
-use Rattle.desk.proofs.Bytes.{ordered, in-order-is, when-over, at-the-stop, at-a-newline, at-a-byte}
+use Rattle.desk.proofs.Progress.{is-fed, fed-in-order}
+use Rattle.desk.proofs.Bytes.{ordered, in-order-is, when-closed, at-the-stop, at-a-newline, at-a-byte}
 
 -- lines of which the first was begun before
 joined : List ℕ → List (List ℕ) → List (List ℕ)
@@ -31,7 +31,7 @@ joined (x ∷ g) (l ∷ ls) = ((x ∷ g) ++ l) ∷ ls
 
 -- what is due of the rest of an input
 abbrev pending : Desk → (kept : List ℕ) → (rest : List ℕ) → List ℕ
-pending d kept rest = cond (d .over) [] (answers (d .clerk) (d .line) (joined (begun-line d kept) (lines-of rest)))
+pending d kept rest = cond (d .closed) [] (answers (d .clerk) (d .line) (joined (begun-line d kept) (lines-of rest)))
 
 joined-byte : (g : List ℕ) (b : ℕ) (ls : List (List ℕ)) → joined g (onto b ls) ≡ joined (g ++ (b ∷ [])) ls
 unfolding joined
@@ -88,10 +88,10 @@ module _ (d : Desk) (kept : List ℕ) (b : ℕ) (rest : List ℕ) (few : d .begu
       → pending d kept (b ∷ rest) ≡ printed ++ pending d′ kept′ rest → Due
   due-as is e = e ∙ (λ j. is .2 j ++ pending (is .0 j) (is .1 j) rest)
 
-  byte-over : d .over ≡ true → Due
-  byte-over o = due-as (when-over d kept b o) (rw o refl)
+  byte-closed : d .closed ≡ true → Due
+  byte-closed o = due-as (when-closed d kept b o) (rw o refl)
 
-  byte-stop : d .over ≡ false → 65535 < d .line → (t : Bool) → eqb b 10 ≡ t → Due
+  byte-stop : d .closed ≡ false → 65535 < d .line → (t : Bool) → eqb b 10 ≡ t → Due
   unfolding lines-of
   byte-stop o l true e =
       due-as (at-the-stop d kept b o l)
@@ -100,14 +100,14 @@ module _ (d : Desk) (kept : List ℕ) (b : ℕ) (rest : List ℕ) (few : d .begu
       due-as (at-the-stop d kept b o l)
       (rw (o, e) (past-onto (d .clerk) (d .line) (begun-line d kept) b (lines-of rest) l ∙ sym (append-nil (stop (d .line)))))
 
-  byte-newline : d .over ≡ false → d .line ≤ 65535 → b ≡ 10 → Due
+  byte-newline : d .closed ≡ false → d .line ≤ 65535 → b ≡ 10 → Due
   unfolding lines-of answers joined
   byte-newline o l e =
       due-as (at-a-newline d kept b o l e)
       (rw (o, eq-eqb b 10 e)
       (ap (answers (d .clerk) (d .line)) (joined-newline (begun-line d kept) (lines-of rest)) ∙ rw (le-leb (d .line) 65535 l) refl))
 
-  byte-kept : d .over ≡ false → d .line ≤ 65535 → (b ≡ 10 → ⊥) → (t : Bool) → ltb 64 (d .begun) ≡ t → Due
+  byte-kept : d .closed ≡ false → d .line ≤ 65535 → (b ≡ 10 → ⊥) → (t : Bool) → ltb 64 (d .begun) ≡ t → Due
   unfolding lines-of
   byte-kept o l e true m =
       let full = ltb-true 64 (d .begun) m in
@@ -127,15 +127,15 @@ module _ (d : Desk) (kept : List ℕ) (b : ℕ) (rest : List ℕ) (few : d .begu
 
   -- at every byte, what is due is what it prints and what is due after it
   byte-due : Due
-  byte-due = by (d .over) refl
+  byte-due = by (d .closed) refl
     where
-      in-line : d .over ≡ false → (t : Bool) → ltb 65535 (d .line) ≡ t → (u : Bool) → eqb b 10 ≡ u → Due
+      in-line : d .closed ≡ false → (t : Bool) → ltb 65535 (d .line) ≡ t → (u : Bool) → eqb b 10 ≡ u → Due
       in-line o true l u e = byte-stop o (ltb-true 65535 (d .line) l) (eqb b 10) refl
       in-line o false l true e = byte-newline o (ltb-false 65535 (d .line) l) (eqb-true b 10 e)
       in-line o false l false e = byte-kept o (ltb-false 65535 (d .line) l) (eqb-false b 10 e) (ltb 64 (d .begun)) refl
 
-      by : (t : Bool) → d .over ≡ t → Due
-      by true o = byte-over o
+      by : (t : Bool) → d .closed ≡ t → Due
+      by true o = byte-closed o
       by false o = in-line o (ltb 65535 (d .line)) refl (eqb b 10) refl
 
 -- a piece: what is due is what it printed and what is due of what it left
@@ -148,7 +148,7 @@ piece-due d kept at size [] rest few room = refl
 piece-due d kept at size (b ∷ bs) rest few room =
     by (leb (at + longest) size)
     (piece-due (next-desk d kept b) (next-kept d kept b) (at + length (prints d kept b)) size bs rest (still-ordered d kept b few)
-    (let same = kept-length d kept b (d .over) (ltb 65535 (d .line)) (eqb b 10) (ltb 64 (d .begun)) in omega arith))
+    (let same = kept-length d kept b (d .closed) (ltb 65535 (d .line)) (eqb b 10) (ltb 64 (d .begun)) in omega arith))
   where
     by : (t : Bool) → Left (fed (next-desk d kept b) (next-kept d kept b) (at + length (prints d kept b)) size bs) (next-desk d kept b) (next-kept d kept b) bs rest
         → Left (cond t (onward (prints d kept b) (fed (next-desk d kept b) (next-kept d kept b) (at + length (prints d kept b)) size bs)) (still d kept)) d kept (b ∷ bs) rest
@@ -171,7 +171,7 @@ one-line clerk n (x ∷ g) l = by (ltb 65535 n) refl
 
 last-due : (d : Desk) (kept : List ℕ) → d .begun ≤ 65 → 65 ≤ length kept → pending d kept [] ≡ prints-last d kept
 unfolding lines-of joined answers
-last-due d kept few room = ap (cond (d .over) []) (by (eqb (d .begun) 0) refl)
+last-due d kept few room = ap (cond (d .closed) []) (by (eqb (d .begun) 0) refl)
   where
     some : (d .begun ≡ 0 → ⊥) → 1 ≤ length (begun-line d kept)
     some not-none = by-size (d .begun) (length (begun-line d kept)) (length-take-le (d .begun) kept (omega arith)) not-none

@@ -12,7 +12,7 @@ pub data Printed : Desk → (kept input printed : List ℕ) → Type 0 where
   -- the input is at its end
   ended : (d : Desk) (kept : List ℕ) → Printed d kept [] (prints-last-any d kept)
   -- no more is read
-  closed : (d : Desk) (kept input : List ℕ) → d .over ≡ true → Printed d kept input []
+  closed : (d : Desk) (kept input : List ℕ) → d .closed ≡ true → Printed d kept input []
   -- a piece is fed, and what it leaves comes again with the rest
   piece-fed : (d : Desk) (kept : List ℕ) (at size : ℕ) (piece rest printed : List ℕ)
       → Printed (fed-any d kept at size piece .desk) (fed-any d kept at size piece .kept) (drop (fed-any d kept at size piece .taken) piece ++ rest) printed

@@ -18,36 +18,36 @@ begun-line d kept = take (d .begun) kept
 
 -- A desk before its first byte.
 abbrev pub at-first : Desk
-at-first = record { clerk = NoArea; line = 1; begun = 0; over = false }
+at-first = record { clerk = NoArea; line = 1; begun = 0; closed = false }
 
 -- The desk after the first byte of a line 65,536; after a newline; after another byte, with what is then kept.
 abbrev pub stopped : Desk → Desk
-stopped d = record { clerk = d .clerk; line = d .line; begun = d .begun; over = true }
+stopped d = record { clerk = d .clerk; line = d .line; begun = d .begun; closed = true }
 
 abbrev pub behind-newline : Desk → (kept : List ℕ) → Desk
-behind-newline d kept = record { clerk = after (d .clerk) (begun-line d kept); line = d .line + 1; begun = 0; over = false }
+behind-newline d kept = record { clerk = after (d .clerk) (begun-line d kept); line = d .line + 1; begun = 0; closed = false }
 
 abbrev pub longer : Desk → Desk
-longer d = cond (ltb 64 (d .begun)) d (record { clerk = d .clerk; line = d .line; begun = d .begun + 1; over = false })
+longer d = cond (ltb 64 (d .begun)) d (record { clerk = d .clerk; line = d .line; begun = d .begun + 1; closed = false })
 
 abbrev pub with-byte : Desk → (kept : List ℕ) → (b : ℕ) → List ℕ
 with-byte d kept b = cond (ltb 64 (d .begun)) kept (set kept (d .begun) b)
 
 -- The desk, what is kept, and what is printed, after a byte.
 abbrev pub next-desk : Desk → (kept : List ℕ) → (b : ℕ) → Desk
-next-desk d kept b = cond (d .over) d (cond (ltb 65535 (d .line)) (stopped d) (cond (eqb b 10) (behind-newline d kept) (longer d)))
+next-desk d kept b = cond (d .closed) d (cond (ltb 65535 (d .line)) (stopped d) (cond (eqb b 10) (behind-newline d kept) (longer d)))
 
 abbrev pub next-kept : Desk → (kept : List ℕ) → (b : ℕ) → List ℕ
-next-kept d kept b = cond (d .over) kept (cond (ltb 65535 (d .line)) kept (cond (eqb b 10) kept (with-byte d kept b)))
+next-kept d kept b = cond (d .closed) kept (cond (ltb 65535 (d .line)) kept (cond (eqb b 10) kept (with-byte d kept b)))
 
 abbrev pub prints : Desk → (kept : List ℕ) → (b : ℕ) → List ℕ
 prints d kept b =
-    cond (d .over) [] (cond (ltb 65535 (d .line)) (stop (d .line)) (cond (eqb b 10) (text (d .line) (reply (d .clerk) (begun-line d kept))) []))
+    cond (d .closed) [] (cond (ltb 65535 (d .line)) (stop (d .line)) (cond (eqb b 10) (text (d .line) (reply (d .clerk) (begun-line d kept))) []))
 
 -- What is printed at the end of the input: for a line that is begun its reply, or STOP for a line 65,536.
 abbrev pub prints-last : Desk → (kept : List ℕ) → List ℕ
 prints-last d kept =
-    cond (d .over) [] (cond (eqb (d .begun) 0) [] (cond (ltb 65535 (d .line)) (stop (d .line)) (text (d .line) (reply (d .clerk) (begun-line d kept)))))
+    cond (d .closed) [] (cond (eqb (d .begun) 0) [] (cond (ltb 65535 (d .line)) (stop (d .line)) (text (d .line) (reply (d .clerk) (begun-line d kept)))))
 
 -- The bytes of a piece one by one, as long as there is room for the longest text in an output of that size.
 pub record Result : Type 0 where

@@ -13,12 +13,12 @@ const KEPT: usize = 65;
 // The last line that is answered.
 const LAST_LINE: u32 = 65535;
 
-// Where the desk stands: the clerk, the number of the line that is begun or next, how many bytes of it are kept, and whether no more is read.
+// Where the desk stands: the clerk, the number of the line that is begun or next, how many bytes of it are kept, and whether it is closed: no more is read.
 pub struct Desk {
     pub clerk: Clerk,
     pub line: u32,
     pub begun: usize,
-    pub over: bool,
+    pub closed: bool,
 }
 
 // The desk after a byte, and the place after what was written.
@@ -35,7 +35,7 @@ pub fn opened() -> Desk
         clerk: Clerk::NoArea,
         line: 1,
         begun: 0,
-        over: false,
+        closed: false,
     }
 }
 
@@ -48,7 +48,7 @@ pub fn closed(desk: Desk) -> Desk
         clerk: clerk,
         line: desk.line,
         begun: desk.begun,
-        over: true,
+        closed: true,
     }
 }
 
@@ -68,18 +68,18 @@ fn keep(desk: Desk, kept: &mut [u8], b: u8) -> Desk
         clerk: clerk,
         line: desk.line,
         begun: begun + 1,
-        over: false,
+        closed: false,
     }
 }
 
 // The clerk after a line, and the place after the reply to it.
-struct Told {
+struct Replied {
     clerk: Clerk,
     at: usize,
 }
 
 // The reply to the line that is begun is written.
-fn tell(desk: Desk, kept: &[u8], out: &mut [u8], at: usize) -> Told
+fn reply_begun(desk: Desk, kept: &[u8], out: &mut [u8], at: usize) -> Replied
     requires { ⌜ (desk .begun ≤ 65) × (65 ≤ length (now kept)) ⌝ }
     ensures left { λ r. ⌜ r .clerk ≡ after (desk .clerk) (begun-line desk (now (kept .entry))) ⌝ }
     ensures written { λ r. ⌜ Writes (now (out .entry)) at (if-room (now (out .entry)) at (text (desk .line) (reply (desk .clerk) (begun-line desk (now (kept .entry))))))
@@ -92,7 +92,7 @@ fn tell(desk: Desk, kept: &[u8], out: &mut [u8], at: usize) -> Told
     let behind = handled.clerk;
     let reply = handled.reply;
     let end = replies::write_reply(out, at, desk.line, reply);
-    Told {
+    Replied {
         clerk: behind,
         at: end,
     }
@@ -106,17 +106,17 @@ fn answer(desk: Desk, kept: &[u8], out: &mut [u8], at: usize) -> Stepped
         (now (out .exit)) (r .at) ⌝ }
     ensures near { λ r. ⌜ r .at ≤ at + longest ⌝ }
 {
-    let told = tell(desk, kept, out, at);
-    let clerk = told.clerk;
+    let replied = reply_begun(desk, kept, out, at);
+    let clerk = replied.clerk;
     let next = Desk {
         clerk: clerk,
         line: desk.line + 1,
         begun: 0,
-        over: false,
+        closed: false,
     };
     Stepped {
         desk: next,
-        at: told.at,
+        at: replied.at,
     }
 }
 
@@ -128,7 +128,7 @@ fn step(desk: Desk, kept: &mut [u8], b: u8, out: &mut [u8], at: usize) -> Steppe
     ensures written { λ r. ⌜ Writes (now (out .entry)) at (prints desk (now (kept .entry)) b) (now (out .exit)) (r .at) ⌝ }
     ensures near { λ r. ⌜ r .at ≤ at + longest ⌝ }
 {
-    if desk.over {
+    if desk.closed {
         return Stepped { desk: desk, at: at };
     }
     if LAST_LINE < desk.line {
@@ -215,15 +215,15 @@ pub fn finish(desk: Desk, kept: &[u8], out: &mut [u8], at: usize) -> usize
     if !is_in_order(desk, kept) {
         return at;
     }
-    if desk.over {
+    if desk.closed {
         return at;
     }
     if desk.begun == 0 {
         return at;
     }
     if desk.line <= LAST_LINE {
-        let told = tell(desk, kept, out, at);
-        return told.at;
+        let replied = reply_begun(desk, kept, out, at);
+        return replied.at;
     }
     replies::write_stop(out, at, desk.line)
 }

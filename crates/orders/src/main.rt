@@ -69,7 +69,7 @@ fn turn(fd: i32, desk: Desk, kept: &mut [u8], chunk: &mut [u8], out: &mut [u8]) 
     }
     Went {
         desk: d,
-        more: !d.over,
+        more: !d.closed,
     }
 }
 

@@ -8,15 +8,15 @@ use Prim.Native.Nat.{_+_}
 use native.Mathlib.Omega.{arith}
 use Rattle.desk.specs.declared.Desk.{Desk}
 
-tell-requires : tie.Need-tell-requires
-tell-requires c κs =
+reply-begun-requires : tie.Need-reply-begun-requires
+reply-begun-requires c κs =
     let start = c .before .before .before in
     (start .pre .0, start .pre .1)
 
 add-t10 : tie.Need-add-t10
 add-t10 c =
-    let told = c .before .before in
-    let start = told .before .before .before .before .before in
+    let replied = c .before .before in
+    let start = replied .before .before .before .before .before in
     record { fits = let few = start .pre .2 in omega arith }
 
 same-length : tie.Need-same-length
@@ -24,11 +24,11 @@ same-length c = search needs
 
 returns : tie.Need-returns
 returns c =
-    let told = c .before .before .before in
-    let start = told .before .before .before .before in (
-      ap {B = Desk} (λ k. record { clerk = k; line = start .args .desk .line + 1; begun = 0; over = false }) (told .tell .ensures .0),
-      told .tell .ensures .1,
+    let replied = c .before .before .before in
+    let start = replied .before .before .before .before in (
+      ap {B = Desk} (λ k. record { clerk = k; line = start .args .desk .line + 1; begun = 0; closed = false }) (replied .reply-begun .ensures .0),
+      replied .reply-begun .ensures .1,
     )
 
 pub answer-spec : {M : Type 1} → statement M
-answer-spec = tie.close (tie.spec tell-requires add-t10 same-length returns)
+answer-spec = tie.close (tie.spec reply-begun-requires add-t10 same-length returns)

@@ -41,8 +41,8 @@ returns-3 c =
       omega arith,
     )
 
-tell-requires : tie.Need-tell-requires
-tell-requires c κs =
+reply-begun-requires : tie.Need-reply-begun-requires
+reply-begun-requires c κs =
     let right = c .before .before .before .before .before .before in
     let asked = right .before in
     let start = asked .before .before .before in
@@ -53,14 +53,14 @@ same-length c = search needs
 
 returns-4 : tie.Need-returns-4
 returns-4 c =
-    let told = c .before .before in
-    let numbered = told .before .before in
+    let replied = c .before .before in
+    let numbered = replied .before .before in
     let begun = numbered .before .before in
     let reading = begun .before .before in
     let ordered = reading .before in
     let right = sym (ordered .before .is-in-order .ensures) ∙ not-false _ (ordered .if1 .left) in
-    let written = told .tell .ensures .1 .0 in
-    (rw (right, reading .if2 .left, ne-eqb _ 0 (begun .if3 .left), le-ltb 65535 _ (numbered .if4 .taken)) written, told .tell .ensures .1 .1)
+    let written = replied .reply-begun .ensures .1 .0 in
+    (rw (right, reading .if2 .left, ne-eqb _ 0 (begun .if3 .left), le-ltb 65535 _ (numbered .if4 .taken)) written, replied .reply-begun .ensures .1 .1)
 
 write-stop-requires : tie.Need-write-stop-requires
 write-stop-requires c κs = search needs
@@ -87,7 +87,7 @@ finish-spec =
     returns
     returns-2
     returns-3
-    tell-requires
+    reply-begun-requires
     same-length
     returns-4
     write-stop-requires

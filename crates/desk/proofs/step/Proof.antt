@@ -6,14 +6,14 @@ use Rattle.clerk.specs.Clerk.{reply}
 use Rattle.replies.specs.Text.{text, stop}
 use Rattle.replies.proofs.Writing.{writes-none}
 use Rattle.desk.specs.Steps.{begun-line}
-use Rattle.desk.proofs.Bytes.{all-written, writes-as, when-over, at-the-stop, at-a-newline, at-a-byte}
+use Rattle.desk.proofs.Bytes.{all-written, writes-as, when-closed, at-the-stop, at-a-newline, at-a-byte}
 use Rattle.desk.proofs.step.Statement.{statement}
 use Rattle.desk.proofs.step.Tie as tie
 
 returns : tie.Need-returns
 returns c =
     let start = c .before .before .before in
-    let is = when-over (start .args .desk) (start .args .kept .now) (start .args .b) (c .if1 .taken) in
+    let is = when-closed (start .args .desk) (start .args .kept .now) (start .args .b) (c .if1 .taken) in
     (is .0, (is .1, (writes-as (is .2) (writes-none (start .args .out .now) (start .args .at)), omega arith)))
 
 write-stop-requires : tie.Need-write-stop-requires

@@ -7,7 +7,7 @@ use native.Mathlib.Omega.{arith}
 use lib.ListN.{length}
 use lib.Seq.{length-take-le}
 use Rattle.desk.specs.Steps.{in-order}
-use Rattle.desk.proofs.Going.{stays-in-order, goes-on}
+use Rattle.desk.proofs.Progress.{stays-in-order, goes-on}
 use Rattle.orders.proofs.serve.Statement.{statement}
 use Rattle.orders.proofs.serve.Tie as tie
 

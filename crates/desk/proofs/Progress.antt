@@ -20,7 +20,7 @@ fed-ordered d kept at size [] l m = in-order-is d kept l m
 fed-ordered d kept at size (b ∷ bs) l m =
     by (leb (at + longest) size)
     (fed-ordered (next-desk d kept b) (next-kept d kept b) (at + length (prints d kept b)) size bs (still-ordered d kept b l)
-    (let same = kept-length d kept b (d .over) (ltb 65535 (d .line)) (eqb b 10) (ltb 64 (d .begun)) in omega arith))
+    (let same = kept-length d kept b (d .closed) (ltb 65535 (d .line)) (eqb b 10) (ltb 64 (d .begun)) in omega arith))
   where
     by : (t : Bool) → (let r = fed (next-desk d kept b) (next-kept d kept b) (at + length (prints d kept b)) size bs in in-order (r .desk) (r .kept) ≡ true)
         → (let r = cond t (onward (prints d kept b) (fed (next-desk d kept b) (next-kept d kept b) (at + length (prints d kept b)) size bs)) (still d kept) in in-order (r .desk) (r .kept) ≡ true)

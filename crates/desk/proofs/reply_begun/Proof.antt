@@ -1,7 +1,7 @@
--- `desk::tell` meets its contract: the clerk's reply to the line that is begun, as text.
+-- `desk::reply_begun` meets its contract: the clerk's reply to the line that is begun, as text.
 use borrow.Author.Needs.{needs}
-use Rattle.desk.proofs.tell.Statement.{statement}
-use Rattle.desk.proofs.tell.Tie as tie
+use Rattle.desk.proofs.reply_begun.Statement.{statement}
+use Rattle.desk.proofs.reply_begun.Tie as tie
 use mathlib.Core.Path.{sym, subst}
 use native.Mathlib.Omega.{arith}
 use lib.Seq.{length-take-le}
@@ -35,7 +35,7 @@ returns c =
     (wrote .write-reply .ensures .0) in
     (handled .handle .ensures .0, (written, wrote .write-reply .ensures .1))
 
-pub tell-spec : {M : Type 1} → statement M
-tell-spec =
+pub reply-begun-spec : {M : Type 1} → statement M
+reply-begun-spec =
     tie.close
     (tie.spec slice-aggregate-handle handle-requires write-reply-requires same-length returns)

@@ -70,8 +70,8 @@ module _ (d : Desk) (kept : List ℕ) {out out′ : List ℕ} {at end : ℕ} (w 
   finish-is-the-end few room =
       subst (λ (zs : List ℕ). Printed d kept [] zs) (sym (stands-written (all-written (prints-last-any d kept) room w) (omega arith))) (ended d kept)
 
-  pub finish-when-over : (input : List ℕ) → d .over ≡ true → Printed d kept input (slice at end out′)
-  finish-when-over input o =
+  pub finish-when-closed : (input : List ℕ) → d .closed ≡ true → Printed d kept input (slice at end out′)
+  finish-when-closed input o =
       subst (λ (zs : List ℕ). Printed d kept input zs) (sym (nothing (writes-as (none (leb (at + longest) (length out)) (in-order d kept)) w))) (closed d kept input o)
     where
       none : (t u : Bool) → cond t (cond u (prints-last d kept) []) [] ≡ []
