@@ -11,7 +11,8 @@ use Rattle.clerk.specs.Clerk.{reply}
 use Rattle.replies.specs.Text.{text, stop, longest, Writes, if-room}
 use Rattle.replies.proofs.Writing.{writes-none}
 use Rattle.desk.specs.declared.Desk.{Desk}
-use Rattle.desk.specs.Steps.{begun-line, stopped, behind-newline, longer, with-byte, next-desk, next-kept, prints, in-order}
+use Rattle.desk.specs.Desk.{last-answered}
+use Rattle.desk.specs.Steps.{kept-bytes, begun-line, stopped, behind-newline, longer, with-byte, next-desk, next-kept, prints, in-order}
 
 pub writes-nothing : (t : List ℕ) (at : ℕ) (p q : Bool) → Writes t at (cond p (cond q [] []) []) t at
 writes-nothing t at true true = writes-none t at
@@ -23,13 +24,13 @@ pub all-written : {t t′ : List ℕ} {at end : ℕ} (bytes : List ℕ) → at +
 all-written {t} {t′} {at} {end} bytes room w = subst (λ (bs : List ℕ). Writes t at bs t′ end) (rw (le-leb (at + longest) (length t) room)) w
 
 -- a desk that is in order
-pub ordered : (d : Desk) (kept : List ℕ) → in-order d kept ≡ true → (d .begun ≤ 65) × (65 ≤ length kept)
+pub ordered : (d : Desk) (kept : List ℕ) → in-order d kept ≡ true → (d .begun ≤ kept-bytes) × (kept-bytes ≤ length kept)
 ordered d kept e =
-    let both = and-eq-true-iff (leb (d .begun) 65) (leb 65 (length kept)) .0 e in
-    (leb-true (d .begun) 65 (both .0), leb-true 65 (length kept) (both .1))
+    let both = and-eq-true-iff (leb (d .begun) kept-bytes) (leb kept-bytes (length kept)) .0 e in
+    (leb-true (d .begun) kept-bytes (both .0), leb-true kept-bytes (length kept) (both .1))
 
-pub in-order-is : (d : Desk) (kept : List ℕ) → d .begun ≤ 65 → 65 ≤ length kept → in-order d kept ≡ true
-in-order-is d kept few room = rw (le-leb (d .begun) 65 few, le-leb 65 (length kept) room) refl
+pub in-order-is : (d : Desk) (kept : List ℕ) → d .begun ≤ kept-bytes → kept-bytes ≤ length kept → in-order d kept ≡ true
+in-order-is d kept few room = rw (le-leb (d .begun) kept-bytes few, le-leb kept-bytes (length kept) room) refl
 
 -- a byte, case by case
 module _ (d : Desk) (kept : List ℕ) (b : ℕ) where
@@ -40,19 +41,19 @@ module _ (d : Desk) (kept : List ℕ) (b : ℕ) where
   when-closed o = (sym (rw o), sym (rw o), sym (rw o))
 
   module _ (o : d .closed ≡ false) where
-    pub at-the-stop : 65535 < d .line → Next (stopped d) kept (stop (d .line))
-    at-the-stop l = let past = lt-ltb 65535 (d .line) l in (sym (rw (o, past)), sym (rw (o, past)), sym (rw (o, past)))
+    pub at-the-stop : last-answered < d .line → Next (stopped d) kept (stop (d .line))
+    at-the-stop l = let past = lt-ltb last-answered (d .line) l in (sym (rw (o, past)), sym (rw (o, past)), sym (rw (o, past)))
 
-    module _ (l : d .line ≤ 65535) where
+    module _ (l : d .line ≤ last-answered) where
       pub at-a-newline : b ≡ 10 → Next (behind-newline d kept) kept (text (d .line) (reply (d .clerk) (begun-line d kept)))
       at-a-newline e =
-          let more = le-ltb 65535 (d .line) l in
+          let more = le-ltb last-answered (d .line) l in
           let newline = eq-eqb b 10 e in
           (sym (rw (o, more, newline)), sym (rw (o, more, newline)), sym (rw (o, more, newline)))
 
       pub at-a-byte : (b ≡ 10 → ⊥) → Next (longer d) (with-byte d kept b) []
       at-a-byte e =
-          let more = le-ltb 65535 (d .line) l in
+          let more = le-ltb last-answered (d .line) l in
           let other = ne-eqb b 10 e in
           (sym (rw (o, more, other)), sym (rw (o, more, other)), sym (rw (o, more, other)))
 

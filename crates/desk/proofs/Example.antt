@@ -26,7 +26,7 @@ use Rattle.clerk.specs.declared.Clerk.the-variants.{NoArea, InForce}
 use Rattle.clerk.specs.Clerk.{Area-set, Cell, Number, Refused, Said, says, from-call, after, reply}
 use Rattle.clerk.proofs.Areas.{others-alter-nothing}
 use Rattle.replies.specs.Text.{text}
-use Rattle.desk.specs.Desk.{lines-of, answers, output}
+use Rattle.desk.specs.Desk.{last-answered, lines-of, answers, output}
 
 accepts : accepted 3 4 ≡ true
 unfolding accepted
@@ -51,7 +51,7 @@ abbrev pub printed : String
 printed = "1 AREA 3 4 12 2 0\n2 CELL 2 1 3\n3 NUMBER 8 3\n4 REFUSED 5\n5 REFUSED 3\n"
 
 -- one line answered, and the rest with the area then in force
-line-answered : (clerk : Clerk) (n : ℕ) (line : List ℕ) (lines : List (List ℕ)) (said : Said) (left : Clerk) → leb n 65535 ≡ true
+line-answered : (clerk : Clerk) (n : ℕ) (line : List ℕ) (lines : List (List ℕ)) (said : Said) (left : Clerk) → leb n last-answered ≡ true
     → reply clerk line ≡ said → after clerk line ≡ left → answers clerk n (line ∷ lines) ≡ text n said ++ answers left (n + 1) lines
 unfolding answers
 line-answered clerk n line lines said left l r a = rw l (ap₂ (λ s c. text n s ++ answers c (n + 1) lines) r a)
@@ -109,7 +109,7 @@ unfolding text decimal decimal-by
 joined = refl
 
 -- a line of the four that leave the area, answered before what is left of them
-next : (n : ℕ) (line : List ℕ) (lines : List (List ℕ)) (rest : List ℕ) → leb n 65535 ≡ true → begins line AREA ≡ false
+next : (n : ℕ) (line : List ℕ) (lines : List (List ℕ)) (rest : List ℕ) → leb n last-answered ≡ true → begins line AREA ≡ false
     → reply three-by-four line ≡ said n → answers three-by-four (n + 1) lines ≡ rest → answers three-by-four n (line ∷ lines) ≡ text n (said n) ++ rest
 next n line lines rest l other r e =
     line-answered three-by-four n line lines (said n) three-by-four l r (keeps-it line other) ∙ ap (λ t. text n (said n) ++ t) e

@@ -5,14 +5,15 @@ use mathlib.Core.Path.{_≡_, refl, sym, ap, subst, _∙_}
 use Prim.Native.Nat.{ℕ, suc, _+_, _≤_, _<_}
 use native.Mathlib.Nat.{add-zero, zero-add}
 use native.Mathlib.Omega.{arith}
-use borrow.Author.Tests.{ltb-false, leb-true}
+use borrow.Author.Tests.{leb-true, leb-false}
 use lib.Dec.{leb, ltb, eqb}
 use lib.ListN.{length, getD, drop, drop-of-length-le, set, length-set}
 use lib.Seq.{drop-cons}
 use Rattle.replies.specs.Text.{longest, Writes}
 use Rattle.replies.proofs.Writing.{writes-both, writes-none, writes-length}
 use Rattle.desk.specs.declared.Desk.{Desk}
-use Rattle.desk.specs.Steps.{stopped, behind-newline, next-desk, next-kept, prints, Result, still, onward, fed, in-order, fed-any, Lent, Handed, Feeds}
+use Rattle.desk.specs.Desk.{last-answered}
+use Rattle.desk.specs.Steps.{kept-bytes, stopped, behind-newline, next-desk, next-kept, prints, Result, still, onward, fed, in-order, fed-any, Lent, Handed, Feeds}
 use Rattle.desk.proofs.Bytes.{ordered, writes-as}
 
 -- n bytes taken and some text printed before a result
@@ -45,16 +46,16 @@ unfolding fed
 fed-end d kept at size chunk i l = rw (drop-of-length-le chunk l) refl
 
 -- a desk that is in order stays so
-ordered-by : (d : Desk) (kept : List ℕ) (b : ℕ) (o s e f : Bool) → ltb 64 (d .begun) ≡ f → d .begun ≤ 65
-    → cond o d (cond s (stopped d) (cond e (behind-newline d kept) (cond f d (record { clerk = d .clerk; line = d .line; begun = d .begun + 1; closed = false })))) .begun ≤ 65
+ordered-by : (d : Desk) (kept : List ℕ) (b : ℕ) (o s e f : Bool) → leb kept-bytes (d .begun) ≡ f → d .begun ≤ kept-bytes
+    → cond o d (cond s (stopped d) (cond e (behind-newline d kept) (cond f d (record { clerk = d .clerk; line = d .line; begun = d .begun + 1; closed = false })))) .begun ≤ kept-bytes
 ordered-by d kept b true s e f p l = l
 ordered-by d kept b false true e f p l = l
 ordered-by d kept b false false true f p l = omega arith
 ordered-by d kept b false false false true p l = l
-ordered-by d kept b false false false false p l = let few = ltb-false 64 (d .begun) p in omega arith
+ordered-by d kept b false false false false p l = let few = leb-false kept-bytes (d .begun) p in omega arith
 
-pub still-ordered : (d : Desk) (kept : List ℕ) (b : ℕ) → d .begun ≤ 65 → next-desk d kept b .begun ≤ 65
-still-ordered d kept b l = ordered-by d kept b (d .closed) (ltb 65535 (d .line)) (eqb b 10) (ltb 64 (d .begun)) refl l
+pub still-ordered : (d : Desk) (kept : List ℕ) (b : ℕ) → d .begun ≤ kept-bytes → next-desk d kept b .begun ≤ kept-bytes
+still-ordered d kept b l = ordered-by d kept b (d .closed) (ltb last-answered (d .line)) (eqb b 10) (leb kept-bytes (d .begun)) refl l
 
 -- and what is kept has its length
 pub kept-length : (d : Desk) (kept : List ℕ) (b : ℕ) (o s e f : Bool) → length (cond o kept (cond s kept (cond e kept (cond f kept (set kept (d .begun) b))))) ≡ length kept
@@ -69,8 +70,8 @@ kept-length d kept b false false false false = length-set kept (d .begun) b
 pub record Midway (d₀ : Desk) (kept₀ chunk : List ℕ) (from : ℕ) (out₀ : List ℕ) (at : ℕ) (kept out : List ℕ) (d : Desk) (i p : ℕ) : Type 0 where
   pub count : ℕ
   pub printed : List ℕ
-  pub begun-few : d .begun ≤ 65
-  pub kept-room : 65 ≤ length kept
+  pub begun-few : d .begun ≤ kept-bytes
+  pub kept-room : kept-bytes ≤ length kept
   pub kept-size : length kept ≡ length kept₀
   pub here : i ≡ from + count
   pub written : Writes out₀ at printed out p
@@ -105,7 +106,7 @@ module _ {d₀ : Desk} {kept₀ chunk : List ℕ} {from : ℕ} {out₀ : List �
       record {
         count = m .count + 1;
         printed = m .printed ++ prints d kept b;
-        begun-few = subst (λ (e : Desk). e .begun ≤ 65) (sym desk-is) (still-ordered d kept b (m .begun-few));
+        begun-few = subst (λ (e : Desk). e .begun ≤ kept-bytes) (sym desk-is) (still-ordered d kept b (m .begun-few));
         kept-room = let all = m .kept-room in omega arith;
         kept-size = same ∙ m .kept-size;
         here = let there = m .here in omega arith;

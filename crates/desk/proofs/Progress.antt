@@ -9,18 +9,19 @@ use lib.Dec.{leb, ltb, eqb}
 use lib.ListN.{length, drop}
 use Rattle.replies.specs.Text.{longest}
 use Rattle.desk.specs.declared.Desk.{Desk}
-use Rattle.desk.specs.Steps.{next-desk, next-kept, prints, Result, still, onward, fed, in-order, fed-any, Lent, Handed, Feeds}
+use Rattle.desk.specs.Desk.{last-answered}
+use Rattle.desk.specs.Steps.{kept-bytes, next-desk, next-kept, prints, Result, still, onward, fed, in-order, fed-any, Lent, Handed, Feeds}
 use Rattle.desk.proofs.Bytes.{ordered, in-order-is}
 use Rattle.desk.proofs.Feeding.{still-ordered, fed-byte, kept-length}
 
-fed-ordered : (d : Desk) (kept : List ℕ) (at size : ℕ) (bytes : List ℕ) → d .begun ≤ 65 → 65 ≤ length kept
+fed-ordered : (d : Desk) (kept : List ℕ) (at size : ℕ) (bytes : List ℕ) → d .begun ≤ kept-bytes → kept-bytes ≤ length kept
     → in-order (fed d kept at size bytes .desk) (fed d kept at size bytes .kept) ≡ true
 unfolding fed
 fed-ordered d kept at size [] l m = in-order-is d kept l m
 fed-ordered d kept at size (b ∷ bs) l m =
     by (leb (at + longest) size)
     (fed-ordered (next-desk d kept b) (next-kept d kept b) (at + length (prints d kept b)) size bs (still-ordered d kept b l)
-    (let same = kept-length d kept b (d .closed) (ltb 65535 (d .line)) (eqb b 10) (ltb 64 (d .begun)) in omega arith))
+    (let same = kept-length d kept b (d .closed) (ltb last-answered (d .line)) (eqb b 10) (leb kept-bytes (d .begun)) in omega arith))
   where
     by : (t : Bool) → (let r = fed (next-desk d kept b) (next-kept d kept b) (at + length (prints d kept b)) size bs in in-order (r .desk) (r .kept) ≡ true)
         → (let r = cond t (onward (prints d kept b) (fed (next-desk d kept b) (next-kept d kept b) (at + length (prints d kept b)) size bs)) (still d kept) in in-order (r .desk) (r .kept) ≡ true)

@@ -17,7 +17,7 @@ use Rattle.replies.specs.Text.{text, longest, Writes, if-room}
 use Rattle.replies.proofs.Promises.{writes-one}
 use Rattle.desk.specs.declared.Desk.{Desk}
 use Rattle.desk.specs.Desk.{lines-of, answers, output}
-use Rattle.desk.specs.Steps.{at-first, stopped, prints-last-any, Lent, Handed, Feeds}
+use Rattle.desk.specs.Steps.{kept-bytes, at-first, stopped, prints-last-any, Lent, Handed, Feeds}
 
 -- Two results of `feed` that meet its promise are one: desk, line kept, place in the piece, output and place in it. Of `finish`, `writes-one` says it.
 pub feed-one : {d : Desk} {lent : Lent} {one other : Handed} → Feeds d lent one → Feeds d lent other → one ≡ other
@@ -66,7 +66,7 @@ begins-anew promise =
 
 -- Turned away, of `finish`: one that writes nothing, and one that takes an empty line for begun.
 abbrev last-of : Desk → List ℕ
-last-of d = if-room (replicate longest 0) 0 (prints-last-any d (replicate 65 0))
+last-of d = if-room (replicate longest 0) 0 (prints-last-any d (replicate kept-bytes 0))
 
 abbrev with-begun : ℕ → Desk
 with-begun n = record { clerk = NoArea; line = 1; begun = n; closed = false }

@@ -13,7 +13,7 @@ use Rattle.clerk.specs.declared.Clerk.{Clerk}
 use Rattle.clerk.specs.declared.Clerk.the-variants.{NoArea}
 use Rattle.clerk.specs.Clerk.{after, reply}
 use Rattle.replies.specs.Text.{text, stop}
-use Rattle.desk.specs.Desk.{lines-of, answers, output}
+use Rattle.desk.specs.Desk.{last-answered, lines-of, answers, output}
 
 -- Bytes none of which is a newline.
 abbrev pub No-newline : List ℕ → Type 0
@@ -52,7 +52,7 @@ unfolding answers replied
 all-replied k n clerk [] e l = refl
 all-replied zero n clerk (line ∷ lines) e l = absurd (omega arith)
 all-replied (suc k) n clerk (line ∷ lines) e l =
-    rw (le-leb n 65535 (omega arith))
+    rw (le-leb n last-answered (omega arith))
     (ap (λ t. text n (reply clerk line) ++ t) (all-replied k (n + 1) (after clerk line) lines (omega arith) (omega arith)))
 
 replied-then-stop : (k n : ℕ) (clerk : Clerk) (lines : List (List ℕ)) → n + k ≡ 65536 → k < length lines
@@ -61,9 +61,9 @@ unfolding answers replied
 replied-then-stop k n clerk [] e l = absurd (omega arith)
 replied-then-stop zero n clerk (line ∷ lines) e l =
     let last : n ≡ 65536 = omega arith in
-    rw (lt-leb n 65535 (omega arith)) (ap stop last)
+    rw (lt-leb n last-answered (omega arith)) (ap stop last)
 replied-then-stop (suc k) n clerk (line ∷ lines) e l =
-    rw (le-leb n 65535 (omega arith))
+    rw (le-leb n last-answered (omega arith))
     (ap (λ t. text n (reply clerk line) ++ t) (replied-then-stop k (n + 1) (after clerk line) lines (omega arith) (omega arith))
     ∙ sym (append-assoc (text n (reply clerk line)) (replied (after clerk line) (n + 1) (take k lines)) (stop 65536)))
 
@@ -72,12 +72,12 @@ unfolding stop decimal decimal-by
 stop-text = refl
 
 -- An input of up to 65,535 lines has a reply to each. "none is in force at the start"
-pub each-line-answered : (input : List ℕ) → length (lines-of input) ≤ 65535 → output input ≡ replied NoArea 1 (lines-of input)
+pub each-line-answered : (input : List ℕ) → length (lines-of input) ≤ last-answered → output input ≡ replied NoArea 1 (lines-of input)
 unfolding output
-each-line-answered input l = all-replied 65535 1 NoArea (lines-of input) refl l
+each-line-answered input l = all-replied last-answered 1 NoArea (lines-of input) refl l
 
 -- "If there is a line 65,536 it prints 65536 STOP for it, and reads no more": the lines before it have their replies, and nothing follows.
-pub stops-at-65536 : (input : List ℕ) → 65535 < length (lines-of input) → output input ≡ replied NoArea 1 (take 65535 (lines-of input)) ++ bytes "65536 STOP\n"
+pub stops-at-65536 : (input : List ℕ) → last-answered < length (lines-of input) → output input ≡ replied NoArea 1 (take last-answered (lines-of input)) ++ bytes "65536 STOP\n"
 unfolding output
 stops-at-65536 input l =
-    replied-then-stop 65535 1 NoArea (lines-of input) refl l ∙ ap (λ t. replied NoArea 1 (take 65535 (lines-of input)) ++ t) stop-text
+    replied-then-stop last-answered 1 NoArea (lines-of input) refl l ∙ ap (λ t. replied NoArea 1 (take last-answered (lines-of input)) ++ t) stop-text

@@ -6,7 +6,7 @@ use mathlib.Core.Path.{_≡_, refl, sym, ap, ap₂, subst, _∙_}
 use Prim.Native.Nat.{ℕ, suc, _+_, _≤_, _<_}
 use native.Mathlib.Nat.{le-refl}
 use native.Mathlib.Omega.{arith}
-use borrow.Author.Tests.{ltb-true, ltb-false, le-leb, lt-leb, eqb-true, eqb-false, eq-eqb, ne-eqb}
+use borrow.Author.Tests.{ltb-true, ltb-false, leb-true, leb-false, le-leb, lt-leb, eqb-true, eqb-false, eq-eqb, ne-eqb}
 use lib.Dec.{leb, ltb, eqb}
 use lib.ListN.{length, take, drop, set}
 use lib.Seq.{take-suc-set, take-append-le, length-take-le}
@@ -16,8 +16,8 @@ use Rattle.clerk.specs.Clerk.{after, reply}
 use Rattle.clerk.proofs.Promises.{reply-kept, after-kept}
 use Rattle.replies.specs.Text.{text, stop, longest}
 use Rattle.desk.specs.declared.Desk.{Desk}
-use Rattle.desk.specs.Desk.{lines-of, answers, output}
-use Rattle.desk.specs.Steps.{begun-line, at-first, next-desk, next-kept, prints, prints-last, Result, still, onward, fed, in-order, fed-any, prints-last-any}
+use Rattle.desk.specs.Desk.{last-answered, lines-of, answers, output}
+use Rattle.desk.specs.Steps.{kept-bytes, begun-line, at-first, next-desk, next-kept, prints, prints-last, Result, still, onward, fed, in-order, fed-any, prints-last-any}
 use Rattle.desk.specs.Runs.{Printed, ended, closed, piece-fed}
 use Rattle.desk.proofs.Feeding.{still-ordered, kept-length}
 use Rattle.desk.proofs.Progress.{is-fed, fed-in-order}
@@ -46,40 +46,40 @@ joined-newline [] ls = refl
 joined-newline (x ∷ g) ls = ap (λ zs. zs ∷ ls) (append-nil (x ∷ g))
 
 -- the first 65 bytes of a line decide
-same-answers : (clerk : Clerk) (n : ℕ) (l m : List ℕ) (ls : List (List ℕ)) → take 65 l ≡ take 65 m → answers clerk n (l ∷ ls) ≡ answers clerk n (m ∷ ls)
+same-answers : (clerk : Clerk) (n : ℕ) (l m : List ℕ) (ls : List (List ℕ)) → take kept-bytes l ≡ take kept-bytes m → answers clerk n (l ∷ ls) ≡ answers clerk n (m ∷ ls)
 unfolding answers
 same-answers clerk n l m ls e =
-    ap₂ (λ s c. cond (leb n 65535) (text n s ++ answers c (n + 1) ls) (stop n))
+    ap₂ (λ s c. cond (leb n last-answered) (text n s ++ answers c (n + 1) ls) (stop n))
     (sym (reply-kept l clerk) ∙ ap (reply clerk) e ∙ reply-kept m clerk)
     (sym (after-kept l clerk) ∙ ap (after clerk) e ∙ after-kept m clerk)
 
 -- a byte after the first 65 of a line changes nothing
-long-enough : (clerk : Clerk) (n : ℕ) (g : List ℕ) (b : ℕ) (ls : List (List ℕ)) → length g ≡ 65 → answers clerk n (joined (g ++ (b ∷ [])) ls) ≡ answers clerk n (joined g ls)
+long-enough : (clerk : Clerk) (n : ℕ) (g : List ℕ) (b : ℕ) (ls : List (List ℕ)) → length g ≡ kept-bytes → answers clerk n (joined (g ++ (b ∷ [])) ls) ≡ answers clerk n (joined g ls)
 unfolding joined
 long-enough clerk n [] b ls e = absurd (omega arith)
 long-enough clerk n (x ∷ g) b [] e =
     same-answers clerk n ((x ∷ g) ++ (b ∷ [])) (x ∷ g) []
-    (take-append-le 65 (x ∷ g) (b ∷ []) (omega arith))
+    (take-append-le kept-bytes (x ∷ g) (b ∷ []) (omega arith))
 long-enough clerk n (x ∷ g) b (l ∷ ls) e =
     same-answers clerk n ((x ∷ g) ++ (b ∷ []) ++ l) ((x ∷ g) ++ l) ls
-    (ap (take 65) (append-assoc (x ∷ g) (b ∷ []) l) ∙ take-append-le 65 (x ∷ g) ((b ∷ []) ++ l) (omega arith) ∙ sym (take-append-le 65 (x ∷ g) l (omega arith)))
+    (ap (take kept-bytes) (append-assoc (x ∷ g) (b ∷ []) l) ∙ take-append-le kept-bytes (x ∷ g) ((b ∷ []) ++ l) (omega arith) ∙ sym (take-append-le kept-bytes (x ∷ g) l (omega arith)))
 
 -- at line 65,536
-past-last : (clerk : Clerk) (n : ℕ) (l : List ℕ) (ls : List (List ℕ)) → 65535 < n → answers clerk n (l ∷ ls) ≡ stop n
+past-last : (clerk : Clerk) (n : ℕ) (l : List ℕ) (ls : List (List ℕ)) → last-answered < n → answers clerk n (l ∷ ls) ≡ stop n
 unfolding answers
-past-last clerk n l ls m = rw (lt-leb n 65535 m) refl
+past-last clerk n l ls m = rw (lt-leb n last-answered m) refl
 
-past-joined : (clerk : Clerk) (n : ℕ) (g l : List ℕ) (ls : List (List ℕ)) → 65535 < n → answers clerk n (joined g (l ∷ ls)) ≡ stop n
+past-joined : (clerk : Clerk) (n : ℕ) (g l : List ℕ) (ls : List (List ℕ)) → last-answered < n → answers clerk n (joined g (l ∷ ls)) ≡ stop n
 unfolding joined
 past-joined clerk n [] l ls m = past-last clerk n l ls m
 past-joined clerk n (x ∷ g) l ls m = past-last clerk n ((x ∷ g) ++ l) ls m
 
-past-onto : (clerk : Clerk) (n : ℕ) (g : List ℕ) (b : ℕ) (ls : List (List ℕ)) → 65535 < n → answers clerk n (joined g (onto b ls)) ≡ stop n
+past-onto : (clerk : Clerk) (n : ℕ) (g : List ℕ) (b : ℕ) (ls : List (List ℕ)) → last-answered < n → answers clerk n (joined g (onto b ls)) ≡ stop n
 past-onto clerk n g b [] m = past-joined clerk n g (b ∷ []) [] m
 past-onto clerk n g b (l ∷ ls) m = past-joined clerk n g (b ∷ l) ls m
 
 -- one byte
-module _ (d : Desk) (kept : List ℕ) (b : ℕ) (rest : List ℕ) (few : d .begun ≤ 65) (room : 65 ≤ length kept) where
+module _ (d : Desk) (kept : List ℕ) (b : ℕ) (rest : List ℕ) (few : d .begun ≤ kept-bytes) (room : kept-bytes ≤ length kept) where
   abbrev Due : Type 0
   Due = pending d kept (b ∷ rest) ≡ prints d kept b ++ pending (next-desk d kept b) (next-kept d kept b) rest
 
@@ -91,7 +91,7 @@ module _ (d : Desk) (kept : List ℕ) (b : ℕ) (rest : List ℕ) (few : d .begu
   byte-closed : d .closed ≡ true → Due
   byte-closed o = due-as (when-closed d kept b o) (rw o refl)
 
-  byte-stop : d .closed ≡ false → 65535 < d .line → (t : Bool) → eqb b 10 ≡ t → Due
+  byte-stop : d .closed ≡ false → last-answered < d .line → (t : Bool) → eqb b 10 ≡ t → Due
   unfolding lines-of
   byte-stop o l true e =
       due-as (at-the-stop d kept b o l)
@@ -100,24 +100,24 @@ module _ (d : Desk) (kept : List ℕ) (b : ℕ) (rest : List ℕ) (few : d .begu
       due-as (at-the-stop d kept b o l)
       (rw (o, e) (past-onto (d .clerk) (d .line) (begun-line d kept) b (lines-of rest) l ∙ sym (append-nil (stop (d .line)))))
 
-  byte-newline : d .closed ≡ false → d .line ≤ 65535 → b ≡ 10 → Due
+  byte-newline : d .closed ≡ false → d .line ≤ last-answered → b ≡ 10 → Due
   unfolding lines-of answers joined
   byte-newline o l e =
       due-as (at-a-newline d kept b o l e)
       (rw (o, eq-eqb b 10 e)
-      (ap (answers (d .clerk) (d .line)) (joined-newline (begun-line d kept) (lines-of rest)) ∙ rw (le-leb (d .line) 65535 l) refl))
+      (ap (answers (d .clerk) (d .line)) (joined-newline (begun-line d kept) (lines-of rest)) ∙ rw (le-leb (d .line) last-answered l) refl))
 
-  byte-kept : d .closed ≡ false → d .line ≤ 65535 → (b ≡ 10 → ⊥) → (t : Bool) → ltb 64 (d .begun) ≡ t → Due
+  byte-kept : d .closed ≡ false → d .line ≤ last-answered → (b ≡ 10 → ⊥) → (t : Bool) → leb kept-bytes (d .begun) ≡ t → Due
   unfolding lines-of
   byte-kept o l e true m =
-      let full = ltb-true 64 (d .begun) m in
+      let full = leb-true kept-bytes (d .begun) m in
       let all = length-take-le (d .begun) kept (omega arith) in
       due-as (at-a-byte d kept b o l e)
       (rw (o, m, ne-eqb b 10 e)
       (ap (answers (d .clerk) (d .line)) (joined-byte (begun-line d kept) b (lines-of rest))
       ∙ long-enough (d .clerk) (d .line) (begun-line d kept) b (lines-of rest) (omega arith)))
   byte-kept o l e false m =
-      let more = ltb-false 64 (d .begun) m in
+      let more = leb-false kept-bytes (d .begun) m in
       let on : d .begun + 1 ≡ suc (d .begun) = omega arith in
       due-as (at-a-byte d kept b o l e)
       (rw (o, m, ne-eqb b 10 e)
@@ -129,26 +129,26 @@ module _ (d : Desk) (kept : List ℕ) (b : ℕ) (rest : List ℕ) (few : d .begu
   byte-due : Due
   byte-due = by (d .closed) refl
     where
-      in-line : d .closed ≡ false → (t : Bool) → ltb 65535 (d .line) ≡ t → (u : Bool) → eqb b 10 ≡ u → Due
-      in-line o true l u e = byte-stop o (ltb-true 65535 (d .line) l) (eqb b 10) refl
-      in-line o false l true e = byte-newline o (ltb-false 65535 (d .line) l) (eqb-true b 10 e)
-      in-line o false l false e = byte-kept o (ltb-false 65535 (d .line) l) (eqb-false b 10 e) (ltb 64 (d .begun)) refl
+      in-line : d .closed ≡ false → (t : Bool) → ltb last-answered (d .line) ≡ t → (u : Bool) → eqb b 10 ≡ u → Due
+      in-line o true l u e = byte-stop o (ltb-true last-answered (d .line) l) (eqb b 10) refl
+      in-line o false l true e = byte-newline o (ltb-false last-answered (d .line) l) (eqb-true b 10 e)
+      in-line o false l false e = byte-kept o (ltb-false last-answered (d .line) l) (eqb-false b 10 e) (leb kept-bytes (d .begun)) refl
 
       by : (t : Bool) → d .closed ≡ t → Due
       by true o = byte-closed o
-      by false o = in-line o (ltb 65535 (d .line)) refl (eqb b 10) refl
+      by false o = in-line o (ltb last-answered (d .line)) refl (eqb b 10) refl
 
 -- a piece: what is due is what it printed and what is due of what it left
 abbrev Left : Result → (d : Desk) (kept piece rest : List ℕ) → Type 0
 Left r d kept piece rest = pending d kept (piece ++ rest) ≡ r .printed ++ pending (r .desk) (r .kept) (drop (r .taken) piece ++ rest)
 
-piece-due : (d : Desk) (kept : List ℕ) (at size : ℕ) (piece rest : List ℕ) → d .begun ≤ 65 → 65 ≤ length kept → Left (fed d kept at size piece) d kept piece rest
+piece-due : (d : Desk) (kept : List ℕ) (at size : ℕ) (piece rest : List ℕ) → d .begun ≤ kept-bytes → kept-bytes ≤ length kept → Left (fed d kept at size piece) d kept piece rest
 unfolding fed
 piece-due d kept at size [] rest few room = refl
 piece-due d kept at size (b ∷ bs) rest few room =
     by (leb (at + longest) size)
     (piece-due (next-desk d kept b) (next-kept d kept b) (at + length (prints d kept b)) size bs rest (still-ordered d kept b few)
-    (let same = kept-length d kept b (d .closed) (ltb 65535 (d .line)) (eqb b 10) (ltb 64 (d .begun)) in omega arith))
+    (let same = kept-length d kept b (d .closed) (ltb last-answered (d .line)) (eqb b 10) (leb kept-bytes (d .begun)) in omega arith))
   where
     by : (t : Bool) → Left (fed (next-desk d kept b) (next-kept d kept b) (at + length (prints d kept b)) size bs) (next-desk d kept b) (next-kept d kept b) bs rest
         → Left (cond t (onward (prints d kept b) (fed (next-desk d kept b) (next-kept d kept b) (at + length (prints d kept b)) size bs)) (still d kept)) d kept (b ∷ bs) rest
@@ -160,16 +160,16 @@ piece-due d kept at size (b ∷ bs) rest few room =
         ∙ sym (append-assoc (prints d kept b) (r .printed) (pending (r .desk) (r .kept) (drop (r .taken) bs ++ rest)))
 
 -- the end of the input: a line that is begun, by its number
-one-line : (clerk : Clerk) (n : ℕ) (g : List ℕ) → 1 ≤ length g → answers clerk n (joined g []) ≡ cond (ltb 65535 n) (stop n) (text n (reply clerk g))
+one-line : (clerk : Clerk) (n : ℕ) (g : List ℕ) → 1 ≤ length g → answers clerk n (joined g []) ≡ cond (ltb last-answered n) (stop n) (text n (reply clerk g))
 unfolding answers joined
 one-line clerk n [] l = absurd (omega arith)
-one-line clerk n (x ∷ g) l = by (ltb 65535 n) refl
+one-line clerk n (x ∷ g) l = by (ltb last-answered n) refl
   where
-    by : (t : Bool) → ltb 65535 n ≡ t → answers clerk n ((x ∷ g) ∷ []) ≡ cond t (stop n) (text n (reply clerk (x ∷ g)))
-    by true e = past-last clerk n (x ∷ g) [] (ltb-true 65535 n e)
-    by false e = rw (le-leb n 65535 (ltb-false 65535 n e)) (append-nil (text n (reply clerk (x ∷ g))))
+    by : (t : Bool) → ltb last-answered n ≡ t → answers clerk n ((x ∷ g) ∷ []) ≡ cond t (stop n) (text n (reply clerk (x ∷ g)))
+    by true e = past-last clerk n (x ∷ g) [] (ltb-true last-answered n e)
+    by false e = rw (le-leb n last-answered (ltb-false last-answered n e)) (append-nil (text n (reply clerk (x ∷ g))))
 
-last-due : (d : Desk) (kept : List ℕ) → d .begun ≤ 65 → 65 ≤ length kept → pending d kept [] ≡ prints-last d kept
+last-due : (d : Desk) (kept : List ℕ) → d .begun ≤ kept-bytes → kept-bytes ≤ length kept → pending d kept [] ≡ prints-last d kept
 unfolding lines-of joined answers
 last-due d kept few room = ap (cond (d .closed) []) (by (eqb (d .begun) 0) refl)
   where
@@ -181,7 +181,7 @@ last-due d kept few room = ap (cond (d .closed) []) (by (eqb (d .begun) 0) refl)
 
     by : (t : Bool) → eqb (d .begun) 0 ≡ t
         → answers (d .clerk) (d .line) (joined (begun-line d kept) [])
-        ≡ cond t [] (cond (ltb 65535 (d .line)) (stop (d .line)) (text (d .line) (reply (d .clerk) (begun-line d kept))))
+        ≡ cond t [] (cond (ltb last-answered (d .line)) (stop (d .line)) (text (d .line) (reply (d .clerk) (begun-line d kept))))
     by true e = rw (eqb-true (d .begun) 0 e) refl
     by false e = one-line (d .clerk) (d .line) (begun-line d kept) (some (eqb-false (d .begun) 0 e))
 
@@ -196,11 +196,11 @@ printed-due (piece-fed d kept at size piece rest printed run) ok =
     ∙ sym (subst (λ (r : Result). Left r d kept piece rest) (sym (is-fed d kept ok at size piece)) left)
 
 -- From the first byte on it is what the definition over the whole input says, so it does not depend on how the input was cut.
-pub whole-printed : {kept input printed : List ℕ} → 65 ≤ length kept → Printed at-first kept input printed → printed ≡ output input
+pub whole-printed : {kept input printed : List ℕ} → kept-bytes ≤ length kept → Printed at-first kept input printed → printed ≡ output input
 unfolding output joined
 whole-printed {kept} room run = printed-due run (in-order-is at-first kept (omega arith) room)
 
-pub however-cut : {kept kept′ input one other : List ℕ} → 65 ≤ length kept → 65 ≤ length kept′ → Printed at-first kept input one → Printed at-first kept′ input other → one ≡ other
+pub however-cut : {kept kept′ input one other : List ℕ} → kept-bytes ≤ length kept → kept-bytes ≤ length kept′ → Printed at-first kept input one → Printed at-first kept′ input other → one ≡ other
 however-cut room room′ run run′ = whole-printed room run ∙ sym (whole-printed room′ run′)
 
 -- Every input has a run, so that the theorems above are about something: byte by byte, into an output of any size that has room for the longest text.
@@ -218,7 +218,7 @@ module _ (size : ℕ) (room : longest ≤ size) where
       let left : rest ≡ drop (r .taken) (b ∷ []) ++ rest = ap (λ n. drop n (b ∷ []) ++ rest) (sym (one-taken d kept ok b)) in
       (r .printed ++ on .0, piece-fed d kept 0 size (b ∷ []) rest (on .0) (subst (λ (zs : List ℕ). Printed (r .desk) (r .kept) zs (on .0)) left (on .1)))
 
-pub every-input : (kept input : List ℕ) → 65 ≤ length kept → Printed at-first kept input (output input)
+pub every-input : (kept input : List ℕ) → kept-bytes ≤ length kept → Printed at-first kept input (output input)
 every-input kept input room =
     let run = byte-by-byte longest (le-refl longest) at-first kept input (in-order-is at-first kept (omega arith) room) in
     subst (λ (zs : List ℕ). Printed at-first kept input zs) (whole-printed room (run .1)) (run .1)

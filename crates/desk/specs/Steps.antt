@@ -1,6 +1,6 @@
 -- What the desk does at each byte, and at the end of the input. It renders, byte by byte, document 01, "A line is the bytes before a newline (byte 10);
 -- bytes after the last newline are a line if there are any" and "If there is a line 65,536 it prints 65536 STOP for it, and reads no more". Pieces, the
--- room of an output and the place where a line is kept, as far as its first 65 bytes, which decide, are a form of the code.
+-- room of an output and the place where a line is kept, as far as the bytes of it that decide, are a form of the code.
 use mathlib.Core.Bool.{Bool, true, false, cond, _&&_}
 use mathlib.Core.List.{List, [], _∷_, _++_}
 use mathlib.Core.Path.{_≡_}
@@ -11,6 +11,11 @@ use Rattle.clerk.specs.declared.Clerk.the-variants.{NoArea}
 use Rattle.clerk.specs.Clerk.{after, reply}
 use Rattle.replies.specs.Text.{text, stop, longest, Writes}
 use Rattle.desk.specs.declared.Desk.{Desk}
+use Rattle.desk.specs.Desk.{last-answered}
+
+-- How many bytes of a line are kept. A line of over 64 bytes is refused, whatever it says, so the first 65 decide.
+abbrev pub kept-bytes : ℕ
+kept-bytes = 65
 
 -- The bytes of the line that is begun.
 abbrev pub begun-line : Desk → (kept : List ℕ) → List ℕ
@@ -28,26 +33,26 @@ abbrev pub behind-newline : Desk → (kept : List ℕ) → Desk
 behind-newline d kept = record { clerk = after (d .clerk) (begun-line d kept); line = d .line + 1; begun = 0; closed = false }
 
 abbrev pub longer : Desk → Desk
-longer d = cond (ltb 64 (d .begun)) d (record { clerk = d .clerk; line = d .line; begun = d .begun + 1; closed = false })
+longer d = cond (leb kept-bytes (d .begun)) d (record { clerk = d .clerk; line = d .line; begun = d .begun + 1; closed = false })
 
 abbrev pub with-byte : Desk → (kept : List ℕ) → (b : ℕ) → List ℕ
-with-byte d kept b = cond (ltb 64 (d .begun)) kept (set kept (d .begun) b)
+with-byte d kept b = cond (leb kept-bytes (d .begun)) kept (set kept (d .begun) b)
 
 -- The desk, what is kept, and what is printed, after a byte.
 abbrev pub next-desk : Desk → (kept : List ℕ) → (b : ℕ) → Desk
-next-desk d kept b = cond (d .closed) d (cond (ltb 65535 (d .line)) (stopped d) (cond (eqb b 10) (behind-newline d kept) (longer d)))
+next-desk d kept b = cond (d .closed) d (cond (ltb last-answered (d .line)) (stopped d) (cond (eqb b 10) (behind-newline d kept) (longer d)))
 
 abbrev pub next-kept : Desk → (kept : List ℕ) → (b : ℕ) → List ℕ
-next-kept d kept b = cond (d .closed) kept (cond (ltb 65535 (d .line)) kept (cond (eqb b 10) kept (with-byte d kept b)))
+next-kept d kept b = cond (d .closed) kept (cond (ltb last-answered (d .line)) kept (cond (eqb b 10) kept (with-byte d kept b)))
 
 abbrev pub prints : Desk → (kept : List ℕ) → (b : ℕ) → List ℕ
 prints d kept b =
-    cond (d .closed) [] (cond (ltb 65535 (d .line)) (stop (d .line)) (cond (eqb b 10) (text (d .line) (reply (d .clerk) (begun-line d kept))) []))
+    cond (d .closed) [] (cond (ltb last-answered (d .line)) (stop (d .line)) (cond (eqb b 10) (text (d .line) (reply (d .clerk) (begun-line d kept))) []))
 
 -- What is printed at the end of the input: for a line that is begun its reply, or STOP for a line 65,536.
 abbrev pub prints-last : Desk → (kept : List ℕ) → List ℕ
 prints-last d kept =
-    cond (d .closed) [] (cond (eqb (d .begun) 0) [] (cond (ltb 65535 (d .line)) (stop (d .line)) (text (d .line) (reply (d .clerk) (begun-line d kept)))))
+    cond (d .closed) [] (cond (eqb (d .begun) 0) [] (cond (ltb last-answered (d .line)) (stop (d .line)) (text (d .line) (reply (d .clerk) (begun-line d kept)))))
 
 -- The bytes of a piece one by one, as long as there is room for the longest text in an output of that size.
 pub record Result : Type 0 where
@@ -67,9 +72,9 @@ fed d kept at size [] = still d kept
 fed d kept at size (b ∷ bs) =
     cond (leb (at + longest) size) (onward (prints d kept b) (fed (next-desk d kept b) (next-kept d kept b) (at + length (prints d kept b)) size bs)) (still d kept)
 
--- A desk that has kept what it counts, in a place for 65 bytes; no other takes a byte or prints one.
+-- A desk that has kept what it counts, in a place for `kept-bytes`; no other takes a byte or prints one.
 abbrev pub in-order : Desk → (kept : List ℕ) → Bool
-in-order d kept = leb (d .begun) 65 && leb 65 (length kept)
+in-order d kept = leb (d .begun) kept-bytes && leb kept-bytes (length kept)
 
 abbrev pub fed-any : Desk → (kept : List ℕ) → (at size : ℕ) → List ℕ → Result
 fed-any d kept at size bytes = cond (in-order d kept) (fed d kept at size bytes) (still d kept)

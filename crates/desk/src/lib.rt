@@ -5,13 +5,14 @@ ghost use Prim.Native.Nat.{_+_, _≤_};
 ghost use lib.ListN.{length};
 ghost use Rattle.clerk.specs.Clerk.{after, reply};
 ghost use Rattle.replies.specs.Text.{text, longest, Writes, if-room};
-ghost use Rattle.desk.specs.Steps.{begun-line, at-first, stopped, behind-newline, longer, with-byte, next-desk, next-kept, prints, in-order, prints-last-any, Feeds};
+ghost use Rattle.desk.specs.Desk.{last-answered};
+ghost use Rattle.desk.specs.Steps.{kept-bytes, begun-line, at-first, stopped, behind-newline, longer, with-byte, next-desk, next-kept, prints, in-order, prints-last-any, Feeds};
 
-// How many bytes of a line are kept: they decide what it is answered.
-const KEPT: usize = 65;
+// How many bytes of a line are kept: a line of over 64 is refused, whatever it says, so they decide.
+pub const KEPT: usize = 65;
 
 // The last line that is answered.
-const LAST_LINE: u32 = 65535;
+const LAST_ANSWERED: u32 = 65535;
 
 // Where the desk stands: the clerk, the number of the line that is begun or next, how many bytes of it are kept, and whether it is closed: no more is read.
 pub struct Desk {
@@ -54,13 +55,13 @@ pub fn closed(desk: Desk) -> Desk
 
 // A byte of a line is kept, if it is among those that decide.
 fn keep(desk: Desk, kept: &mut [u8], b: u8) -> Desk
-    requires { ⌜ 65 ≤ length (now kept) ⌝ }
+    requires { ⌜ kept-bytes ≤ length (now kept) ⌝ }
     ensures counted { λ r. ⌜ r ≡ longer desk ⌝ }
     ensures stored { λ r. ⌜ now (kept .exit) ≡ with-byte desk (now (kept .entry)) b ⌝ }
 {
     let clerk = desk.clerk;
     let begun = desk.begun;
-    if 64 < begun {
+    if KEPT <= begun {
         return desk;
     }
     kept[begun] = b;
@@ -80,7 +81,7 @@ struct Replied {
 
 // The reply to the line that is begun is written.
 fn reply_begun(desk: Desk, kept: &[u8], out: &mut [u8], at: usize) -> Replied
-    requires { ⌜ (desk .begun ≤ 65) × (65 ≤ length (now kept)) ⌝ }
+    requires { ⌜ (desk .begun ≤ kept-bytes) × (kept-bytes ≤ length (now kept)) ⌝ }
     ensures left { λ r. ⌜ r .clerk ≡ after (desk .clerk) (begun-line desk (now (kept .entry))) ⌝ }
     ensures written { λ r. ⌜ Writes (now (out .entry)) at (if-room (now (out .entry)) at (text (desk .line) (reply (desk .clerk) (begun-line desk (now (kept .entry))))))
         (now (out .exit)) (r .at) ⌝ }
@@ -100,7 +101,7 @@ fn reply_begun(desk: Desk, kept: &[u8], out: &mut [u8], at: usize) -> Replied
 
 // The line that is begun is answered, and the next one is begun.
 fn answer(desk: Desk, kept: &[u8], out: &mut [u8], at: usize) -> Stepped
-    requires { ⌜ (desk .begun ≤ 65) × (65 ≤ length (now kept)) × (desk .line ≤ 65535) ⌝ }
+    requires { ⌜ (desk .begun ≤ kept-bytes) × (kept-bytes ≤ length (now kept)) × (desk .line ≤ last-answered) ⌝ }
     ensures next { λ r. ⌜ r .desk ≡ behind-newline desk (now (kept .entry)) ⌝ }
     ensures written { λ r. ⌜ Writes (now (out .entry)) at (if-room (now (out .entry)) at (text (desk .line) (reply (desk .clerk) (begun-line desk (now (kept .entry))))))
         (now (out .exit)) (r .at) ⌝ }
@@ -122,7 +123,7 @@ fn answer(desk: Desk, kept: &[u8], out: &mut [u8], at: usize) -> Stepped
 
 // One byte.
 fn step(desk: Desk, kept: &mut [u8], b: u8, out: &mut [u8], at: usize) -> Stepped
-    requires { ⌜ (desk .begun ≤ 65) × (65 ≤ length (now kept)) × (at + longest ≤ length (now out)) ⌝ }
+    requires { ⌜ (desk .begun ≤ kept-bytes) × (kept-bytes ≤ length (now kept)) × (at + longest ≤ length (now out)) ⌝ }
     ensures next { λ r. ⌜ r .desk ≡ next-desk desk (now (kept .entry)) b ⌝ }
     ensures stored { λ r. ⌜ now (kept .exit) ≡ next-kept desk (now (kept .entry)) b ⌝ }
     ensures written { λ r. ⌜ Writes (now (out .entry)) at (prints desk (now (kept .entry)) b) (now (out .exit)) (r .at) ⌝ }
@@ -131,7 +132,7 @@ fn step(desk: Desk, kept: &mut [u8], b: u8, out: &mut [u8], at: usize) -> Steppe
     if desk.closed {
         return Stepped { desk: desk, at: at };
     }
-    if LAST_LINE < desk.line {
+    if LAST_ANSWERED < desk.line {
         let end = replies::write_stop(out, at, desk.line);
         let last = closed(desk);
         return Stepped {
@@ -221,7 +222,7 @@ pub fn finish(desk: Desk, kept: &[u8], out: &mut [u8], at: usize) -> usize
     if desk.begun == 0 {
         return at;
     }
-    if desk.line <= LAST_LINE {
+    if desk.line <= LAST_ANSWERED {
         let replied = reply_begun(desk, kept, out, at);
         return replied.at;
     }

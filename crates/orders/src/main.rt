@@ -84,7 +84,7 @@ fn turns_left(more: bool, turns: u64) -> u64
 
 // Answers the lines of a form, whose bytes a descriptor hands out.
 fn answer(fd: i32) {
-    let mut kept = [0u8; 65];
+    let mut kept = [0u8; desk::KEPT];
     let mut chunk = io::large_buffer();
     let mut out = io::large_buffer();
     let mut d = desk::opened();

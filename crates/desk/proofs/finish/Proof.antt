@@ -1,5 +1,6 @@
 -- `desk::finish` meets its contract: the line that is begun is answered, or stopped at, if the desk has one and reads on.
 use borrow.Author.Needs.{needs}
+use Rattle.desk.specs.Desk.{last-answered}
 use Rattle.desk.proofs.finish.Statement.{statement}
 use Rattle.desk.proofs.finish.Tie as tie
 use mathlib.Core.Bool.{true}
@@ -60,7 +61,7 @@ returns-4 c =
     let ordered = reading .before in
     let right = sym (ordered .before .is-in-order .ensures) ∙ not-false _ (ordered .if1 .left) in
     let written = replied .reply-begun .ensures .1 .0 in
-    (rw (right, reading .if2 .left, ne-eqb _ 0 (begun .if3 .left), le-ltb 65535 _ (numbered .if4 .taken)) written, replied .reply-begun .ensures .1 .1)
+    (rw (right, reading .if2 .left, ne-eqb _ 0 (begun .if3 .left), le-ltb last-answered _ (numbered .if4 .taken)) written, replied .reply-begun .ensures .1 .1)
 
 write-stop-requires : tie.Need-write-stop-requires
 write-stop-requires c κs = search needs
@@ -77,7 +78,7 @@ returns-5 c =
     let ordered = reading .before in
     let right = sym (ordered .before .is-in-order .ensures) ∙ not-false _ (ordered .if1 .left) in
     let written = stopped .write-stop .ensures .0 in
-    (rw (right, reading .if2 .left, ne-eqb _ 0 (begun .if3 .left), lt-ltb 65535 _ (numbered .if4 .left)) written, stopped .write-stop .ensures .1)
+    (rw (right, reading .if2 .left, ne-eqb _ 0 (begun .if3 .left), lt-ltb last-answered _ (numbered .if4 .left)) written, stopped .write-stop .ensures .1)
 
 pub finish-spec : {M : Type 1} → statement M
 finish-spec =

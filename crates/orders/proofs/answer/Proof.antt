@@ -4,13 +4,13 @@ use mathlib.Core.Path.{_≡_, refl, sym, _∙_}
 use native.Mathlib.Omega.{arith}
 use lib.ListN.{length}
 use lib.Seq.{length-take-le}
-use Rattle.desk.specs.Steps.{in-order}
+use Rattle.desk.specs.Steps.{kept-bytes, in-order}
 use Rattle.orders.proofs.answer.Statement.{statement}
 use Rattle.orders.proofs.answer.Tie as tie
 
 abbrev Inv-loop : tie.InvT-loop
 Inv-loop fd kept₀ chunk₀ out₀ d₀ turns₀ kept chunk out d turns =
-    (in-order d kept ≡ true) × (length kept ≡ 65) × (length chunk ≡ 65536) × (length out ≡ 65536)
+    (in-order d kept ≡ true) × (length kept ≡ kept-bytes) × (length chunk ≡ 65536) × (length out ≡ 65536)
 
 abbrev μ-loop : tie.MeasureT-loop
 μ-loop fd kept₀ chunk₀ out₀ d₀ turns₀ kept chunk out d turns = turns
