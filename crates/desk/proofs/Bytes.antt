@@ -56,7 +56,3 @@ module _ (d : Desk) (kept : List ℕ) (b : ℕ) where
           let more = le-ltb last-answered (d .line) l in
           let other = ne-eqb b 10 e in
           (sym (rw (o, more, other)), sym (rw (o, more, other)), sym (rw (o, more, other)))
-
--- what was written, put another way
-pub writes-as : {t t′ xs ys : List ℕ} {at end : ℕ} → xs ≡ ys → Writes t at xs t′ end → Writes t at ys t′ end
-writes-as {t} {t′} {at = at} {end} e w = subst (λ (bs : List ℕ). Writes t at bs t′ end) e w

@@ -11,11 +11,11 @@ use lib.Dec.{leb}
 use lib.ListN.{length, drop}
 use lib.Seq.{drop-drop, slice, slice-empty}
 use Rattle.replies.specs.Text.{longest, Writes, if-room}
-use Rattle.replies.proofs.Writing.{stands-written}
+use Rattle.replies.proofs.Writing.{stands-written, writes-as}
 use Rattle.desk.specs.declared.Desk.{Desk}
 use Rattle.desk.specs.Steps.{prints-last, still, fed, in-order, fed-any, prints-last-any, Lent, Handed, due, Feeds}
 use Rattle.desk.specs.Runs.{Printed, ended, closed, piece-fed}
-use Rattle.desk.proofs.Bytes.{all-written, writes-as}
+use Rattle.desk.proofs.Bytes.{all-written}
 
 -- after the end of an output nothing is printed
 none-behind : (d : Desk) (kept : List ℕ) (at size : ℕ) (bytes : List ℕ) → size < at → fed-any d kept at size bytes .printed ≡ []

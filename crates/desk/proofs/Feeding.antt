@@ -10,11 +10,11 @@ use lib.Dec.{leb, ltb, eqb}
 use lib.ListN.{length, getD, drop, drop-of-length-le, set, length-set}
 use lib.Seq.{drop-cons}
 use Rattle.replies.specs.Text.{longest, Writes}
-use Rattle.replies.proofs.Writing.{writes-both, writes-none, writes-length}
+use Rattle.replies.proofs.Writing.{writes-both, writes-none, writes-length, writes-as}
 use Rattle.desk.specs.declared.Desk.{Desk}
 use Rattle.desk.specs.Desk.{last-answered}
 use Rattle.desk.specs.Steps.{kept-bytes, stopped, behind-newline, next-desk, next-kept, prints, Result, still, onward, fed, in-order, fed-any, Lent, Handed, Feeds}
-use Rattle.desk.proofs.Bytes.{ordered, writes-as}
+use Rattle.desk.proofs.Bytes.{ordered}
 
 -- n bytes taken and some text printed before a result
 abbrev before : ℕ → List ℕ → Result → Result

@@ -1,18 +1,17 @@
 -- Bytes written one after the other, and the room for them.
-use mathlib.Core.Bool.{Bool, true, false}
+use mathlib.Core.Bool.{Bool, true, false, not}
 use mathlib.Core.List.{List, [], _∷_, _++_, append-nil, append-assoc}
-use mathlib.Core.Path.{_≡_, refl, sym, ap, ap₂, _∙_}
-use Prim.Native.Nat.{ℕ, suc, _+_, _*_, _-_, _≤_, _<_}
+use mathlib.Core.Path.{_≡_, refl, sym, ap, ap₂, subst, _∙_}
+use Prim.Native.Nat.{ℕ, suc, _+_, _*_, _-_, _/_, _≤_, _<_}
 use native.Mathlib.Nat.{add-zero}
 use native.Mathlib.Omega.{arith}
-use borrow.Author.Tests.{leb-true, leb-false, le-leb, lt-leb}
+use borrow.Author.Tests.{not-true, not-false, leb-true, leb-false, le-leb, lt-leb}
 use lib.Dec.{leb}
 use lib.ListN.{length, length-append, getD, take, drop, set}
 use lib.Seq.{sets, sets-eq, length-sets, take-suc, take-length, length-take-le, take-at, drop-at, slice}
 use Rattle.words.specs.Decimal.{decimal}
-use Rattle.words.proofs.Decimals.{ten-digits}
-use Rattle.clerk.specs.Clerk.{Said}
-use Rattle.replies.specs.Text.{spaced, all-spaced, body, longest, Writes, if-room}
+use Rattle.words.proofs.Decimals.{ten-digits, digits-more}
+use Rattle.replies.specs.Text.{spaced, all-spaced, longest, Writes, if-room}
 
 sets-append : (t : List ℕ) (i : ℕ) (xs ys : List ℕ) → sets t i (xs ++ ys) ≡ sets (sets t i xs) (i + length xs) ys
 sets-append t i [] ys = ap (λ n. sets t n ys) (sym (add-zero i))
@@ -42,9 +41,13 @@ writes-none t i = record { written = refl; behind = sym (add-zero i) }
 pub number-near : {t t′ : List ℕ} {at n end : ℕ} → n < 4294967296 → Writes t at (decimal n) t′ end → end ≤ at + 10
 number-near {n = n} fits w = omega (arith, w .behind, ten-digits n fits)
 
--- the body of what is said, by another form of it
-pub says-as : {t t′ : List ℕ} {at end : ℕ} {s s′ : Said} → s ≡ s′ → Writes t at (body s′) t′ end → Writes t at (body s) t′ end
-says-as same w = rw same w
+-- after the digits before the last there is room for the last
+pub last-has-room : {t t′ : List ℕ} {at n end : ℕ} → 10 ≤ n → at + length (decimal n) ≤ length t → Writes t at (decimal (n / 10)) t′ end → end < length t
+last-has-room {n = n} large room w = omega (arith, digits-more n large, w .behind)
+
+-- what was written, put another way
+pub writes-as : {t t′ xs ys : List ℕ} {at end : ℕ} → xs ≡ ys → Writes t at xs t′ end → Writes t at ys t′ end
+writes-as {t} {t′} {at = at} {end} e w = subst (λ (bs : List ℕ). Writes t at bs t′ end) e w
 
 -- what is written leaves the buffer its length
 pub writes-length : {t t′ xs : List ℕ} {i n : ℕ} → Writes t i xs t′ n → length t′ ≡ length t
@@ -103,13 +106,16 @@ room-is at n l = by (leb longest (n - at)) refl
     by true e = e ∙ sym (le-leb (at + longest) n (let room = leb-true longest (n - at) e in omega arith))
     by false e = e ∙ sym (lt-leb (at + longest) n (let none = leb-false longest (n - at) e in omega arith))
 
--- what is written where there is room, and where there is none
-pub with-room : {t t′ : List ℕ} {at end : ℕ} (bytes : List ℕ) → leb (at + longest) (length t) ≡ true → Writes t at bytes t′ end
-    → Writes t at (if-room t at bytes) t′ end
-with-room bytes e w = rw e w
+-- what `has_room` says: where there is room for the longest text all is written, and where there is none nothing is
+pub has-longest : (at size : ℕ) {room : Bool} → room ≡ leb (at + longest) size → not room ≡ false → at + longest ≤ size
+has-longest at size {room} told there = leb-true (at + longest) size (sym told ∙ not-false room there)
 
-pub no-room : (t : List ℕ) (at : ℕ) (bytes : List ℕ) → leb (at + longest) (length t) ≡ false → Writes t at (if-room t at bytes) t at
-no-room t at bytes e = rw e (writes-none t at)
+module _ {t : List ℕ} {at : ℕ} {room : Bool} (told : room ≡ leb (at + longest) (length t)) where
+  pub with-room : not room ≡ false → {bytes t′ : List ℕ} {end : ℕ} → Writes t at bytes t′ end → Writes t at (if-room t at bytes) t′ end
+  with-room there w = rw (sym told ∙ not-false room there) w
+
+  pub no-room : not room ≡ true → (bytes : List ℕ) → Writes t at (if-room t at bytes) t at
+  no-room none bytes = rw (sym told ∙ not-true room none) (writes-none t at)
 
 -- what was written stands between the two places
 pub stands-written : {t t′ bytes : List ℕ} {at end : ℕ} → Writes t at bytes t′ end → end ≤ length t → slice at end t′ ≡ bytes

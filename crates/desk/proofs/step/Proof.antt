@@ -4,9 +4,9 @@ use mathlib.Core.Path.{_∙_}
 use native.Mathlib.Omega.{arith}
 use Rattle.clerk.specs.Clerk.{reply}
 use Rattle.replies.specs.Text.{text, stop}
-use Rattle.replies.proofs.Writing.{writes-none}
+use Rattle.replies.proofs.Writing.{writes-none, writes-as}
 use Rattle.desk.specs.Steps.{begun-line}
-use Rattle.desk.proofs.Bytes.{all-written, writes-as, when-closed, at-the-stop, at-a-newline, at-a-byte}
+use Rattle.desk.proofs.Bytes.{all-written, when-closed, at-the-stop, at-a-newline, at-a-byte}
 use Rattle.desk.proofs.step.Statement.{statement}
 use Rattle.desk.proofs.step.Tie as tie
 

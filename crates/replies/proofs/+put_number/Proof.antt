@@ -1,13 +1,11 @@
 -- `replies::put_number` meets its contract: the digits before the last are those of the tenth part, written by the call of itself.
 -- The measure is the number.
-use mathlib.Core.List.{List}
-use mathlib.Core.Path.{ap, subst⁻¹, _∙_}
+use mathlib.Core.Path.{sym, ap, _∙_}
 use Prim.Native.Nat.{ℕ, _+_, _%_, _<_}
 use native.Mathlib.Omega.{arith}
-use lib.ListN.{length, set, length-set}
-use Rattle.replies.specs.Text.{Writes}
+use lib.ListN.{length, length-set}
 use Rattle.words.proofs.Decimals.{one-digit, more-digits, digits-more}
-use Rattle.replies.proofs.Writing.{writes-byte, writes-both}
+use Rattle.replies.proofs.Writing.{writes-byte, writes-both, writes-as, last-has-room}
 use borrow.Fn.Kinds.{In}
 use borrow.Fn.PlainCycle.{Measures, is, falls, and}
 use Rattle.replies.proofs.put_number.Reads as put-number
@@ -74,10 +72,8 @@ put-number-returns :
     put-number.Post
 put-number-returns t c =
     let start = c .before .before in
-    let out = start .args .out .now in
-    let at = start .args .at in
     let n = start .args .n in
-    subst⁻¹ (λ (ds : List ℕ). Writes out at ds (set out at (48 + n)) (at + 1)) (one-digit n (c .if1 .taken)) (writes-byte out at (48 + n))
+    writes-as (sym (one-digit n (c .if1 .taken))) (writes-byte (start .args .out .now) (start .args .at) (48 + n))
 
 put-number-put-number-requires : (t : ℕ) → put-number-lts.Need-put-number-requires (put-number-calls t) (put-number-at t) put-number.Post
 put-number-put-number-requires t c κs =
@@ -95,23 +91,15 @@ put-number-cast-out-2 t c = record { fits = omega arith }
 put-number-slice-write-out-2 : (t : ℕ) → put-number-lts.Need-slice-write-out-2 (put-number-calls t) (put-number-at t) put-number.Post
 put-number-slice-write-out-2 t c =
     let tenth = c .before .before in
-    let test = tenth .before .before in
-    let start = test .before .before in
-    let room = start .pre .1 in
-    let more = digits-more (start .args .n) (test .if1 .left) in
-    let same = tenth .put-number .kept .0 in
-    let there = tenth .put-number .ensures .behind in
-    omega arith
+    let large = tenth .before .before in
+    let there = last-has-room (large .if1 .left) (large .before .before .pre .1) (tenth .put-number .ensures) in
+    omega (arith, tenth .put-number .kept .0)
 
 put-number-add-result-2 : (t : ℕ) → put-number-lts.Need-add-result-2 (put-number-calls t) (put-number-at t) put-number.Post
 put-number-add-result-2 t c =
     let tenth = c .before .before in
-    let test = tenth .before .before in
-    let start = test .before .before in
-    let room = start .pre .1 in
-    let more = digits-more (start .args .n) (test .if1 .left) in
-    let there = tenth .put-number .ensures .behind in
-    record { fits = omega arith }
+    let large = tenth .before .before in
+    omega (arith, last-has-room (large .if1 .left) (large .before .before .pre .1) (tenth .put-number .ensures))
 
 put-number-same-length-2 : (t : ℕ) → put-number-lts.Need-same-length-2 (put-number-calls t) (put-number-at t) put-number.Post
 put-number-same-length-2 t c =
@@ -122,15 +110,10 @@ put-number-same-length-2 t c =
 put-number-returns-2 : (t : ℕ) → put-number-lts.Need-returns-2 (put-number-calls t) (put-number-at t) put-number.Post
 put-number-returns-2 t c =
     let tenth = c .before .before in
-    let test = tenth .before .before in
-    let start = test .before .before in
-    let n = start .args .n in
-    subst⁻¹
-    (λ (ds : List ℕ). Writes (start .args .out .now) (start .args .at) ds
-    (set (tenth .put-number .last .0) (tenth .put-number .result) (48 + n % 10))
-    (tenth .put-number .result + 1))
-    (more-digits n (test .if1 .left))
-    (writes-both (tenth .put-number .ensures) (writes-byte (tenth .put-number .last .0) (tenth .put-number .result) (48 + n % 10)))
+    let large = tenth .before .before in
+    let n = large .before .before .args .n in
+    let last = writes-byte (tenth .put-number .last .0) (tenth .put-number .result) (48 + n % 10) in
+    writes-as (sym (more-digits n (large .if1 .left))) (writes-both (tenth .put-number .ensures) last)
 
 pub +put-number-spec : {M : Type 1} → statement M
 +put-number-spec = close μ-put-number λ t. put-number-lts.spec (put-number-calls t)

@@ -5,7 +5,8 @@ use mathlib.Core.List.{[], _∷_}
 use mathlib.Core.Path.{sym, ap, _∙_}
 use native.Mathlib.Omega.{arith}
 use Rattle.clerk.specs.Clerk.{says, Refused, said}
-use Rattle.replies.proofs.Writing.{says-as}
+use Rattle.replies.specs.Text.{body}
+use Rattle.replies.proofs.Writing.{writes-as}
 use Rattle.replies.proofs.put_body.Statement.{statement}
 use Rattle.replies.proofs.put_body.Tie as tie
 
@@ -67,7 +68,7 @@ returns : tie.Need-returns
 returns c =
     let wrote = c .before .before in
     let known = wrote .before .before .before .before .before .reply .given .1 in
-    (says-as (ap said known) (wrote .put-said .ensures .0), omega arith)
+    (writes-as (ap body (sym (ap said known))) (wrote .put-said .ensures .0), omega arith)
 
 same-length-2 : tie.Need-same-length-2
 same-length-2 c = search needs
@@ -76,7 +77,7 @@ returns-2 : tie.Need-returns-2
 returns-2 c =
     let wrote = c .before .before in
     let known = wrote .before .before .before .before .before .reply2 .given .1 in
-    (says-as (ap said known) (wrote .put-said2 .ensures .0), omega arith)
+    (writes-as (ap body (sym (ap said known))) (wrote .put-said2 .ensures .0), omega arith)
 
 same-length-3 : tie.Need-same-length-3
 same-length-3 c = search needs
@@ -85,7 +86,7 @@ returns-3 : tie.Need-returns-3
 returns-3 c =
     let wrote = c .before .before in
     let known = wrote .before .before .before .before .before .reply3 .given .1 in
-    (says-as (ap said known) (wrote .put-said3 .ensures .0), omega arith)
+    (writes-as (ap body (sym (ap said known))) (wrote .put-said3 .ensures .0), omega arith)
 
 same-length-4 : tie.Need-same-length-4
 same-length-4 c = search needs
@@ -96,7 +97,7 @@ returns-4 c =
     let numbered = wrote .before .before .before .before in
     let known = numbered .before .before .reply4 .given .1 in
     let number = numbered .refusal-number .ensures in
-    (says-as (ap said known ∙ ap (λ n. says Refused (n ∷ [])) (sym number)) (wrote .put-said4 .ensures .0), omega arith)
+    (writes-as (ap body (ap (λ n. says Refused (n ∷ [])) number ∙ sym (ap said known))) (wrote .put-said4 .ensures .0), omega arith)
 
 pub put-body-spec : {M : Type 1} → statement M
 put-body-spec =

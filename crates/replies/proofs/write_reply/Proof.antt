@@ -1,11 +1,7 @@
 -- `replies::write_reply` meets its contract: it writes where there is room for the longest text.
 use borrow.Author.Needs.{needs}
-use mathlib.Core.Path.{sym, _∙_}
 use native.Mathlib.Omega.{arith}
-use borrow.Author.Tests.{not-true, not-false, leb-true}
-use Rattle.clerk.specs.Clerk.{said}
-use Rattle.replies.specs.Text.{text}
-use Rattle.replies.proofs.Writing.{with-room, no-room}
+use Rattle.replies.proofs.Writing.{has-longest, with-room, no-room}
 use Rattle.replies.proofs.write_reply.Statement.{statement}
 use Rattle.replies.proofs.write_reply.Tie as tie
 
@@ -16,29 +12,19 @@ same-length : tie.Need-same-length
 same-length c = search needs
 
 returns : tie.Need-returns
-returns c =
-    let start = c .before .before .before .before in (
-      no-room (start .args .out .now) (start .args .at) (text (start .args .line) (said (start .args .reply)))
-          (sym (c .before .has-room .ensures) ∙ not-true _ (c .if1 .taken)),
-      omega arith,
-    )
+returns c = (no-room (c .before .has-room .ensures) (c .if1 .taken) _, omega arith)
 
 put-line-requires : tie.Need-put-line-requires
-put-line-requires c κs = leb-true _ _ (sym (c .before .before .has-room .ensures) ∙ not-false _ (c .before .if1 .left))
+put-line-requires c κs = has-longest _ _ (c .before .before .has-room .ensures) (c .before .if1 .left)
 
 same-length-2 : tie.Need-same-length-2
 same-length-2 c = search needs
 
 returns-2 : tie.Need-returns-2
 returns-2 c =
-    let wrote = c .before .before in
-    let test = wrote .before .before in
-    let asked = test .before in
-    let start = asked .before .before .before in (
-      with-room (text (start .args .line) (said (start .args .reply))) (sym (asked .has-room .ensures) ∙ not-false _ (test .if1 .left))
-          (wrote .put-line .ensures .0),
-      wrote .put-line .ensures .1,
-    )
+    let lined = c .before .before in
+    let roomy = lined .before .before in
+    (with-room (roomy .before .has-room .ensures) (roomy .if1 .left) (lined .put-line .ensures .0), lined .put-line .ensures .1)
 
 pub write-reply-spec : {M : Type 1} → statement M
 write-reply-spec =
