@@ -7,12 +7,11 @@ use Prim.Native.Nat.{ℕ, _+_, _≤_, _<_}
 use borrow.Author.Tests.{leb-true, le-leb, lt-ltb, le-ltb, eq-eqb, ne-eqb}
 use lib.Dec.{leb}
 use lib.ListN.{length}
-use Rattle.clerk.specs.Clerk.{reply}
-use Rattle.replies.specs.Text.{text, stop, longest, Writes, if-room}
+use Rattle.replies.specs.Text.{stop, longest, Writes, if-room}
 use Rattle.replies.proofs.Writing.{writes-none}
 use Rattle.desk.specs.declared.Desk.{Desk}
 use Rattle.desk.specs.Desk.{last-answered}
-use Rattle.desk.specs.Steps.{kept-bytes, begun-line, stopped, behind-newline, longer, with-byte, next-desk, next-kept, prints, in-order}
+use Rattle.desk.specs.Steps.{kept-bytes, reply-text, stopped, behind-newline, longer, with-byte, next-desk, next-kept, prints, in-order}
 
 pub writes-nothing : (t : List ℕ) (at : ℕ) (p q : Bool) → Writes t at (cond p (cond q [] []) []) t at
 writes-nothing t at true true = writes-none t at
@@ -45,7 +44,7 @@ module _ (d : Desk) (kept : List ℕ) (b : ℕ) where
     at-the-stop l = let past = lt-ltb last-answered (d .line) l in (sym (rw (o, past)), sym (rw (o, past)), sym (rw (o, past)))
 
     module _ (l : d .line ≤ last-answered) where
-      pub at-a-newline : b ≡ 10 → Next (behind-newline d kept) kept (text (d .line) (reply (d .clerk) (begun-line d kept)))
+      pub at-a-newline : b ≡ 10 → Next (behind-newline d kept) kept (reply-text d kept)
       at-a-newline e =
           let more = le-ltb last-answered (d .line) l in
           let newline = eq-eqb b 10 e in

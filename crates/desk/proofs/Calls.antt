@@ -72,7 +72,8 @@ module _ (d : Desk) (kept : List ℕ) {out out′ : List ℕ} {at end : ℕ} (w 
 
   pub finish-when-closed : (input : List ℕ) → d .closed ≡ true → Printed d kept input (slice at end out′)
   finish-when-closed input o =
-      subst (λ (zs : List ℕ). Printed d kept input zs) (sym (nothing (writes-as (none (leb (at + longest) (length out)) (in-order d kept)) w))) (closed d kept input o)
+      let silent = none (leb (at + longest) (length out)) (in-order d kept) in
+      subst (λ (zs : List ℕ). Printed d kept input zs) (sym (nothing (writes-as silent w))) (closed d kept input o)
     where
       none : (t u : Bool) → cond t (cond u (prints-last d kept) []) [] ≡ []
       none true true = rw o refl

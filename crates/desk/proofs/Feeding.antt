@@ -13,7 +13,8 @@ use Rattle.replies.specs.Text.{longest, Writes}
 use Rattle.replies.proofs.Writing.{writes-both, writes-none, writes-length, writes-as}
 use Rattle.desk.specs.declared.Desk.{Desk}
 use Rattle.desk.specs.Desk.{last-answered}
-use Rattle.desk.specs.Steps.{kept-bytes, stopped, behind-newline, next-desk, next-kept, prints, Result, still, onward, fed, in-order, fed-any, Lent, Handed, Feeds}
+use Rattle.desk.specs.Steps.{kept-bytes, stopped, behind-newline, next-desk, next-kept, prints, Result, still, onward}
+use Rattle.desk.specs.Steps.{fed, in-order, fed-any, Lent, Handed, Feeds}
 use Rattle.desk.proofs.Bytes.{ordered}
 
 -- n bytes taken and some text printed before a result
@@ -28,16 +29,19 @@ before-onward n xs ys r =
     let count : n + suc (r .taken) ≡ n + 1 + r .taken = omega arith in
     λ j. record { desk = r .desk; kept = r .kept; taken = count j; printed = sym (append-assoc xs ys (r .printed)) j }
 
--- one byte of a piece
+-- one byte of a piece, and those after it
+abbrev pub fed-after : Desk → (kept : List ℕ) → (at size b : ℕ) → List ℕ → Result
+fed-after d kept at size b bytes = fed (next-desk d kept b) (next-kept d kept b) (at + length (prints d kept b)) size bytes
+
 pub fed-byte : (d : Desk) (kept : List ℕ) (at size : ℕ) (chunk : List ℕ) (i : ℕ) → i < length chunk → leb (at + longest) size ≡ true
-    → fed d kept at size (drop i chunk)
-    ≡ onward (prints d kept (getD chunk i 0)) (fed (next-desk d kept (getD chunk i 0)) (next-kept d kept (getD chunk i 0)) (at + length (prints d kept (getD chunk i 0))) size (drop (i + 1) chunk))
+    → (let b = getD chunk i 0 in fed d kept at size (drop i chunk) ≡ onward (prints d kept b) (fed-after d kept at size b (drop (i + 1) chunk)))
 unfolding fed
 fed-byte d kept at size chunk i l room =
     let on : i + 1 ≡ suc i = omega arith in
     rw on (rw (drop-cons chunk i 0 l) (rw room refl))
 
-fed-full : (d : Desk) (kept : List ℕ) (at size : ℕ) (chunk : List ℕ) (i : ℕ) → i < length chunk → leb (at + longest) size ≡ false → fed d kept at size (drop i chunk) ≡ still d kept
+fed-full : (d : Desk) (kept : List ℕ) (at size : ℕ) (chunk : List ℕ) (i : ℕ) → i < length chunk → leb (at + longest) size ≡ false
+    → fed d kept at size (drop i chunk) ≡ still d kept
 unfolding fed
 fed-full d kept at size chunk i l room = rw (drop-cons chunk i 0 l) (rw room refl)
 
@@ -47,7 +51,8 @@ fed-end d kept at size chunk i l = rw (drop-of-length-le chunk l) refl
 
 -- a desk that is in order stays so
 ordered-by : (d : Desk) (kept : List ℕ) (b : ℕ) (o s e f : Bool) → leb kept-bytes (d .begun) ≡ f → d .begun ≤ kept-bytes
-    → cond o d (cond s (stopped d) (cond e (behind-newline d kept) (cond f d (record { clerk = d .clerk; line = d .line; begun = d .begun + 1; closed = false })))) .begun ≤ kept-bytes
+    → (let more : Desk = record { clerk = d .clerk; line = d .line; begun = d .begun + 1; closed = false } in
+    cond o d (cond s (stopped d) (cond e (behind-newline d kept) (cond f d more))) .begun ≤ kept-bytes)
 ordered-by d kept b true s e f p l = l
 ordered-by d kept b false true e f p l = l
 ordered-by d kept b false false true f p l = omega arith
@@ -58,12 +63,15 @@ pub still-ordered : (d : Desk) (kept : List ℕ) (b : ℕ) → d .begun ≤ kept
 still-ordered d kept b l = ordered-by d kept b (d .closed) (ltb last-answered (d .line)) (eqb b 10) (leb kept-bytes (d .begun)) refl l
 
 -- and what is kept has its length
-pub kept-length : (d : Desk) (kept : List ℕ) (b : ℕ) (o s e f : Bool) → length (cond o kept (cond s kept (cond e kept (cond f kept (set kept (d .begun) b))))) ≡ length kept
-kept-length d kept b true s e f = refl
-kept-length d kept b false true e f = refl
-kept-length d kept b false false true f = refl
-kept-length d kept b false false false true = refl
-kept-length d kept b false false false false = length-set kept (d .begun) b
+pub kept-length : (d : Desk) (kept : List ℕ) (b : ℕ) → length (next-kept d kept b) ≡ length kept
+kept-length d kept b = by (d .closed) (ltb last-answered (d .line)) (eqb b 10) (leb kept-bytes (d .begun))
+  where
+    by : (o s e f : Bool) → length (cond o kept (cond s kept (cond e kept (cond f kept (set kept (d .begun) b))))) ≡ length kept
+    by true s e f = refl
+    by false true e f = refl
+    by false false true f = refl
+    by false false false true = refl
+    by false false false false = length-set kept (d .begun) b
 
 -- where a piece stands: begun with desk d₀ and kept₀ at a place of it and of an output, and now with d and kept, the bytes from i on left, and out
 -- written up to p
@@ -93,16 +101,19 @@ begin d kept chunk from out at e =
       due = rw e (sym (before-none (fed d kept at (length out) (drop from chunk))));
     }
 
-module _ {d₀ : Desk} {kept₀ chunk : List ℕ} {from : ℕ} {out₀ : List ℕ} {at : ℕ} {kept out : List ℕ} {d : Desk} {i p : ℕ} (m : Midway d₀ kept₀ chunk from out₀ at kept out d i p) where
+module _ {d₀ : Desk} {kept₀ chunk : List ℕ} {from : ℕ} {out₀ : List ℕ} {at : ℕ} {kept out : List ℕ} {d : Desk} {i p : ℕ}
+    (m : Midway d₀ kept₀ chunk from out₀ at kept out d i p) where
   pub out-size : length out ≡ length out₀
   out-size = writes-length (m .written)
 
   -- one byte on
-  pub one-on : i < length chunk → leb (p + longest) (length out) ≡ true → (d′ : Desk) → d′ ≡ next-desk d kept (getD chunk i 0) → (kept′ : List ℕ) → kept′ ≡ next-kept d kept (getD chunk i 0)
-      → length kept′ ≡ length kept → (out′ : List ℕ) (p′ : ℕ) → Writes out p (prints d kept (getD chunk i 0)) out′ p′ → p′ ≤ p + longest → Midway d₀ kept₀ chunk from out₀ at kept′ out′ d′ (i + 1) p′
-  one-on l room d′ desk-is kept′ kept-is same out′ p′ w far =
+  pub one-on : i < length chunk → leb (p + longest) (length out) ≡ true → {d′ : Desk} {kept′ out′ : List ℕ} {p′ : ℕ}
+      → d′ ≡ next-desk d kept (getD chunk i 0) → kept′ ≡ next-kept d kept (getD chunk i 0)
+      → Writes out p (prints d kept (getD chunk i 0)) out′ p′ → p′ ≤ p + longest → Midway d₀ kept₀ chunk from out₀ at kept′ out′ d′ (i + 1) p′
+  one-on l room desk-is kept-is w far =
       let b = getD chunk i 0 in
       let size = length out₀ in
+      let same = ap length kept-is ∙ kept-length d kept b in
       record {
         count = m .count + 1;
         printed = m .printed ++ prints d kept b;
@@ -115,7 +126,7 @@ module _ {d₀ : Desk} {kept₀ chunk : List ℕ} {from : ℕ} {out₀ : List �
         due =
             m .due
             ∙ ap (before (m .count) (m .printed)) (fed-byte d kept p size chunk i l (subst (λ (n : ℕ). leb (p + longest) n ≡ true) out-size room))
-            ∙ before-onward (m .count) (m .printed) (prints d kept b) (fed (next-desk d kept b) (next-kept d kept b) (p + length (prints d kept b)) size (drop (i + 1) chunk))
+            ∙ before-onward (m .count) (m .printed) (prints d kept b) (fed-after d kept p size b (drop (i + 1) chunk))
             ∙ ap (before (m .count + 1) (m .printed ++ prints d kept b))
             (λ j. fed (sym desk-is j) (sym kept-is j) (sym (w .behind) j) size (drop (i + 1) chunk));
       }

@@ -5,31 +5,31 @@ use mathlib.Core.Path.{_≡_, refl, ap, ap₂, _∙_}
 use Prim.Native.Nat.{ℕ, _+_, _≤_, _<_}
 use native.Mathlib.Omega.{arith}
 use borrow.Author.Tests.{le-leb}
-use lib.Dec.{leb, ltb, eqb}
+use lib.Dec.{leb}
 use lib.ListN.{length, drop}
 use Rattle.replies.specs.Text.{longest}
 use Rattle.desk.specs.declared.Desk.{Desk}
-use Rattle.desk.specs.Desk.{last-answered}
 use Rattle.desk.specs.Steps.{kept-bytes, next-desk, next-kept, prints, Result, still, onward, fed, in-order, fed-any, Lent, Handed, Feeds}
 use Rattle.desk.proofs.Bytes.{ordered, in-order-is}
-use Rattle.desk.proofs.Feeding.{still-ordered, fed-byte, kept-length}
+use Rattle.desk.proofs.Feeding.{still-ordered, fed-after, fed-byte, kept-length}
 
 fed-ordered : (d : Desk) (kept : List ℕ) (at size : ℕ) (bytes : List ℕ) → d .begun ≤ kept-bytes → kept-bytes ≤ length kept
     → in-order (fed d kept at size bytes .desk) (fed d kept at size bytes .kept) ≡ true
 unfolding fed
 fed-ordered d kept at size [] l m = in-order-is d kept l m
 fed-ordered d kept at size (b ∷ bs) l m =
+    let same = kept-length d kept b in
     by (leb (at + longest) size)
-    (fed-ordered (next-desk d kept b) (next-kept d kept b) (at + length (prints d kept b)) size bs (still-ordered d kept b l)
-    (let same = kept-length d kept b (d .closed) (ltb last-answered (d .line)) (eqb b 10) (leb kept-bytes (d .begun)) in omega arith))
+    (fed-ordered (next-desk d kept b) (next-kept d kept b) (at + length (prints d kept b)) size bs (still-ordered d kept b l) (omega arith))
   where
-    by : (t : Bool) → (let r = fed (next-desk d kept b) (next-kept d kept b) (at + length (prints d kept b)) size bs in in-order (r .desk) (r .kept) ≡ true)
-        → (let r = cond t (onward (prints d kept b) (fed (next-desk d kept b) (next-kept d kept b) (at + length (prints d kept b)) size bs)) (still d kept) in in-order (r .desk) (r .kept) ≡ true)
+    by : (t : Bool) → (let r = fed-after d kept at size b bs in in-order (r .desk) (r .kept) ≡ true)
+        → (let r = cond t (onward (prints d kept b) (fed-after d kept at size b bs)) (still d kept) in in-order (r .desk) (r .kept) ≡ true)
     by true next = next
     by false next = in-order-is d kept l m
 
 -- to a desk that is in order a piece is fed
-pub is-fed : (d : Desk) (kept : List ℕ) → in-order d kept ≡ true → (at size : ℕ) (bytes : List ℕ) → fed-any d kept at size bytes ≡ fed d kept at size bytes
+pub is-fed : (d : Desk) (kept : List ℕ) → in-order d kept ≡ true → (at size : ℕ) (bytes : List ℕ)
+    → fed-any d kept at size bytes ≡ fed d kept at size bytes
 is-fed d kept ok at size bytes = rw ok refl
 
 pub fed-in-order : (d : Desk) (kept : List ℕ) → in-order d kept ≡ true → (at size : ℕ) (bytes : List ℕ)

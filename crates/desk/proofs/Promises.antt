@@ -42,7 +42,8 @@ first-repeated [] = []
 first-repeated (l ∷ ls) = repeated (reply NoArea l) 1 (l ∷ ls)
 
 pub repeats-its-first : ((input : List ℕ) → first-repeated (lines-of input) ≡ output input) → ⊥
-unfolding first-repeated repeated output answers lines-of text decimal decimal-by reply after request shaped fields same-bytes numeral is-number all-digits value-on
+unfolding first-repeated repeated output answers lines-of text decimal decimal-by reply after
+    request shaped fields same-bytes numeral is-number all-digits value-on
 repeats-its-first promise =
     let second : _≡_ {A = ℕ} 54 55 = ap (λ (t : List ℕ). getD t 22 0) (promise (10 ∷ 78 ∷ 32 ∷ 49 ∷ [])) in
     omega arith

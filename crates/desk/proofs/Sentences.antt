@@ -77,7 +77,8 @@ unfolding output
 each-line-answered input l = all-replied last-answered 1 NoArea (lines-of input) refl l
 
 -- "If there is a line 65,536 it prints 65536 STOP for it, and reads no more": the lines before it have their replies, and nothing follows.
-pub stops-at-65536 : (input : List ℕ) → last-answered < length (lines-of input) → output input ≡ replied NoArea 1 (take last-answered (lines-of input)) ++ bytes "65536 STOP\n"
+pub stops-at-65536 : (input : List ℕ) → last-answered < length (lines-of input)
+    → output input ≡ replied NoArea 1 (take last-answered (lines-of input)) ++ bytes "65536 STOP\n"
 unfolding output
 stops-at-65536 input l =
     replied-then-stop last-answered 1 NoArea (lines-of input) refl l ∙ ap (λ t. replied NoArea 1 (take last-answered (lines-of input)) ++ t) stop-text

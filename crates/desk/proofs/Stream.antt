@@ -17,9 +17,10 @@ use Rattle.clerk.proofs.Promises.{reply-kept, after-kept}
 use Rattle.replies.specs.Text.{text, stop, longest}
 use Rattle.desk.specs.declared.Desk.{Desk}
 use Rattle.desk.specs.Desk.{last-answered, lines-of, answers, output}
-use Rattle.desk.specs.Steps.{kept-bytes, begun-line, at-first, next-desk, next-kept, prints, prints-last, Result, still, onward, fed, in-order, fed-any, prints-last-any}
+use Rattle.desk.specs.Steps.{kept-bytes, begun-line, reply-text, at-first, next-desk, next-kept, prints, prints-last}
+use Rattle.desk.specs.Steps.{Result, still, onward, fed, in-order, fed-any, prints-last-any}
 use Rattle.desk.specs.Runs.{Printed, ended, closed, piece-fed}
-use Rattle.desk.proofs.Feeding.{still-ordered, kept-length}
+use Rattle.desk.proofs.Feeding.{still-ordered, kept-length, fed-after}
 use Rattle.desk.proofs.Progress.{is-fed, fed-in-order}
 use Rattle.desk.proofs.Bytes.{ordered, in-order-is, when-closed, at-the-stop, at-a-newline, at-a-byte}
 
@@ -46,7 +47,8 @@ joined-newline [] ls = refl
 joined-newline (x ∷ g) ls = ap (λ zs. zs ∷ ls) (append-nil (x ∷ g))
 
 -- the first 65 bytes of a line decide
-same-answers : (clerk : Clerk) (n : ℕ) (l m : List ℕ) (ls : List (List ℕ)) → take kept-bytes l ≡ take kept-bytes m → answers clerk n (l ∷ ls) ≡ answers clerk n (m ∷ ls)
+same-answers : (clerk : Clerk) (n : ℕ) (l m : List ℕ) (ls : List (List ℕ)) → take kept-bytes l ≡ take kept-bytes m
+    → answers clerk n (l ∷ ls) ≡ answers clerk n (m ∷ ls)
 unfolding answers
 same-answers clerk n l m ls e =
     ap₂ (λ s c. cond (leb n last-answered) (text n s ++ answers c (n + 1) ls) (stop n))
@@ -54,7 +56,8 @@ same-answers clerk n l m ls e =
     (sym (after-kept l clerk) ∙ ap (after clerk) e ∙ after-kept m clerk)
 
 -- a byte after the first 65 of a line changes nothing
-long-enough : (clerk : Clerk) (n : ℕ) (g : List ℕ) (b : ℕ) (ls : List (List ℕ)) → length g ≡ kept-bytes → answers clerk n (joined (g ++ (b ∷ [])) ls) ≡ answers clerk n (joined g ls)
+long-enough : (clerk : Clerk) (n : ℕ) (g : List ℕ) (b : ℕ) (ls : List (List ℕ)) → length g ≡ kept-bytes
+    → answers clerk n (joined (g ++ (b ∷ [])) ls) ≡ answers clerk n (joined g ls)
 unfolding joined
 long-enough clerk n [] b ls e = absurd (omega arith)
 long-enough clerk n (x ∷ g) b [] e =
@@ -62,7 +65,9 @@ long-enough clerk n (x ∷ g) b [] e =
     (take-append-le kept-bytes (x ∷ g) (b ∷ []) (omega arith))
 long-enough clerk n (x ∷ g) b (l ∷ ls) e =
     same-answers clerk n ((x ∷ g) ++ (b ∷ []) ++ l) ((x ∷ g) ++ l) ls
-    (ap (take kept-bytes) (append-assoc (x ∷ g) (b ∷ []) l) ∙ take-append-le kept-bytes (x ∷ g) ((b ∷ []) ++ l) (omega arith) ∙ sym (take-append-le kept-bytes (x ∷ g) l (omega arith)))
+    (ap (take kept-bytes) (append-assoc (x ∷ g) (b ∷ []) l)
+    ∙ take-append-le kept-bytes (x ∷ g) ((b ∷ []) ++ l) (omega arith)
+    ∙ sym (take-append-le kept-bytes (x ∷ g) l (omega arith)))
 
 -- at line 65,536
 past-last : (clerk : Clerk) (n : ℕ) (l : List ℕ) (ls : List (List ℕ)) → last-answered < n → answers clerk n (l ∷ ls) ≡ stop n
@@ -142,25 +147,27 @@ module _ (d : Desk) (kept : List ℕ) (b : ℕ) (rest : List ℕ) (few : d .begu
 abbrev Left : Result → (d : Desk) (kept piece rest : List ℕ) → Type 0
 Left r d kept piece rest = pending d kept (piece ++ rest) ≡ r .printed ++ pending (r .desk) (r .kept) (drop (r .taken) piece ++ rest)
 
-piece-due : (d : Desk) (kept : List ℕ) (at size : ℕ) (piece rest : List ℕ) → d .begun ≤ kept-bytes → kept-bytes ≤ length kept → Left (fed d kept at size piece) d kept piece rest
+piece-due : (d : Desk) (kept : List ℕ) (at size : ℕ) (piece rest : List ℕ) → d .begun ≤ kept-bytes → kept-bytes ≤ length kept
+    → Left (fed d kept at size piece) d kept piece rest
 unfolding fed
 piece-due d kept at size [] rest few room = refl
 piece-due d kept at size (b ∷ bs) rest few room =
+    let same = kept-length d kept b in
     by (leb (at + longest) size)
-    (piece-due (next-desk d kept b) (next-kept d kept b) (at + length (prints d kept b)) size bs rest (still-ordered d kept b few)
-    (let same = kept-length d kept b (d .closed) (ltb last-answered (d .line)) (eqb b 10) (leb kept-bytes (d .begun)) in omega arith))
+    (piece-due (next-desk d kept b) (next-kept d kept b) (at + length (prints d kept b)) size bs rest (still-ordered d kept b few) (omega arith))
   where
-    by : (t : Bool) → Left (fed (next-desk d kept b) (next-kept d kept b) (at + length (prints d kept b)) size bs) (next-desk d kept b) (next-kept d kept b) bs rest
-        → Left (cond t (onward (prints d kept b) (fed (next-desk d kept b) (next-kept d kept b) (at + length (prints d kept b)) size bs)) (still d kept)) d kept (b ∷ bs) rest
+    by : (t : Bool) → Left (fed-after d kept at size b bs) (next-desk d kept b) (next-kept d kept b) bs rest
+        → Left (cond t (onward (prints d kept b) (fed-after d kept at size b bs)) (still d kept)) d kept (b ∷ bs) rest
     by false next = refl
     by true next =
-        let r = fed (next-desk d kept b) (next-kept d kept b) (at + length (prints d kept b)) size bs in
+        let r = fed-after d kept at size b bs in
         byte-due d kept b (bs ++ rest) few room
         ∙ ap (λ zs. prints d kept b ++ zs) next
         ∙ sym (append-assoc (prints d kept b) (r .printed) (pending (r .desk) (r .kept) (drop (r .taken) bs ++ rest)))
 
 -- the end of the input: a line that is begun, by its number
-one-line : (clerk : Clerk) (n : ℕ) (g : List ℕ) → 1 ≤ length g → answers clerk n (joined g []) ≡ cond (ltb last-answered n) (stop n) (text n (reply clerk g))
+one-line : (clerk : Clerk) (n : ℕ) (g : List ℕ) → 1 ≤ length g
+    → answers clerk n (joined g []) ≡ cond (ltb last-answered n) (stop n) (text n (reply clerk g))
 unfolding answers joined
 one-line clerk n [] l = absurd (omega arith)
 one-line clerk n (x ∷ g) l = by (ltb last-answered n) refl
@@ -181,7 +188,7 @@ last-due d kept few room = ap (cond (d .closed) []) (by (eqb (d .begun) 0) refl)
 
     by : (t : Bool) → eqb (d .begun) 0 ≡ t
         → answers (d .clerk) (d .line) (joined (begun-line d kept) [])
-        ≡ cond t [] (cond (ltb last-answered (d .line)) (stop (d .line)) (text (d .line) (reply (d .clerk) (begun-line d kept))))
+        ≡ cond t [] (cond (ltb last-answered (d .line)) (stop (d .line)) (reply-text d kept))
     by true e = rw (eqb-true (d .begun) 0 e) refl
     by false e = one-line (d .clerk) (d .line) (begun-line d kept) (some (eqb-false (d .begun) 0 e))
 
@@ -200,7 +207,8 @@ pub whole-printed : {kept input printed : List ℕ} → kept-bytes ≤ length ke
 unfolding output joined
 whole-printed {kept} room run = printed-due run (in-order-is at-first kept (omega arith) room)
 
-pub however-cut : {kept kept′ input one other : List ℕ} → kept-bytes ≤ length kept → kept-bytes ≤ length kept′ → Printed at-first kept input one → Printed at-first kept′ input other → one ≡ other
+pub however-cut : {kept kept′ input one other : List ℕ} → kept-bytes ≤ length kept → kept-bytes ≤ length kept′
+    → Printed at-first kept input one → Printed at-first kept′ input other → one ≡ other
 however-cut room room′ run run′ = whole-printed room run ∙ sym (whole-printed room′ run′)
 
 -- Every input has a run, so that the theorems above are about something: byte by byte, into an output of any size that has room for the longest text.

@@ -21,6 +21,10 @@ kept-bytes = 65
 abbrev pub begun-line : Desk → (kept : List ℕ) → List ℕ
 begun-line d kept = take (d .begun) kept
 
+-- The reply to it, as text.
+abbrev pub reply-text : Desk → (kept : List ℕ) → List ℕ
+reply-text d kept = text (d .line) (reply (d .clerk) (begun-line d kept))
+
 -- A desk before its first byte.
 abbrev pub at-first : Desk
 at-first = record { clerk = NoArea; line = 1; begun = 0; closed = false }
@@ -47,12 +51,12 @@ next-kept d kept b = cond (d .closed) kept (cond (ltb last-answered (d .line)) k
 
 abbrev pub prints : Desk → (kept : List ℕ) → (b : ℕ) → List ℕ
 prints d kept b =
-    cond (d .closed) [] (cond (ltb last-answered (d .line)) (stop (d .line)) (cond (eqb b 10) (text (d .line) (reply (d .clerk) (begun-line d kept))) []))
+    cond (d .closed) [] (cond (ltb last-answered (d .line)) (stop (d .line)) (cond (eqb b 10) (reply-text d kept) []))
 
 -- What is printed at the end of the input: for a line that is begun its reply, or STOP for a line 65,536.
 abbrev pub prints-last : Desk → (kept : List ℕ) → List ℕ
 prints-last d kept =
-    cond (d .closed) [] (cond (eqb (d .begun) 0) [] (cond (ltb last-answered (d .line)) (stop (d .line)) (text (d .line) (reply (d .clerk) (begun-line d kept)))))
+    cond (d .closed) [] (cond (eqb (d .begun) 0) [] (cond (ltb last-answered (d .line)) (stop (d .line)) (reply-text d kept)))
 
 -- The bytes of a piece one by one, as long as there is room for the longest text in an output of that size.
 pub record Result : Type 0 where
@@ -70,7 +74,9 @@ onward first r = record { desk = r .desk; kept = r .kept; taken = suc (r .taken)
 unfoldable pub fed : Desk → (kept : List ℕ) → (at size : ℕ) → List ℕ → Result
 fed d kept at size [] = still d kept
 fed d kept at size (b ∷ bs) =
-    cond (leb (at + longest) size) (onward (prints d kept b) (fed (next-desk d kept b) (next-kept d kept b) (at + length (prints d kept b)) size bs)) (still d kept)
+    cond (leb (at + longest) size)
+    (onward (prints d kept b) (fed (next-desk d kept b) (next-kept d kept b) (at + length (prints d kept b)) size bs))
+    (still d kept)
 
 -- A desk that has kept what it counts, in a place for `kept-bytes`; no other takes a byte or prints one.
 abbrev pub in-order : Desk → (kept : List ℕ) → Bool

@@ -3,10 +3,11 @@ use clerk::Clerk;
 ghost use mathlib.Core.Path.{_≡_};
 ghost use Prim.Native.Nat.{_+_, _≤_};
 ghost use lib.ListN.{length};
-ghost use Rattle.clerk.specs.Clerk.{after, reply};
-ghost use Rattle.replies.specs.Text.{text, longest, Writes, if-room};
+ghost use Rattle.clerk.specs.Clerk.{after};
+ghost use Rattle.replies.specs.Text.{longest, Writes, if-room};
 ghost use Rattle.desk.specs.Desk.{last-answered};
-ghost use Rattle.desk.specs.Steps.{kept-bytes, begun-line, at-first, stopped, behind-newline, longer, with-byte, next-desk, next-kept, prints, in-order, prints-last-any, Feeds};
+ghost use Rattle.desk.specs.Steps.{kept-bytes, begun-line, reply-text, at-first, stopped, behind-newline, longer, with-byte};
+ghost use Rattle.desk.specs.Steps.{next-desk, next-kept, prints, in-order, prints-last-any, Feeds};
 
 // How many bytes of a line are kept: a line of over 64 is refused, whatever it says, so they decide.
 pub const KEPT: usize = 65;
@@ -83,8 +84,7 @@ struct Replied {
 fn reply_begun(desk: Desk, kept: &[u8], out: &mut [u8], at: usize) -> Replied
     requires { ⌜ (desk .begun ≤ kept-bytes) × (kept-bytes ≤ length (now kept)) ⌝ }
     ensures left { λ r. ⌜ r .clerk ≡ after (desk .clerk) (begun-line desk (now (kept .entry))) ⌝ }
-    ensures written { λ r. ⌜ Writes (now (out .entry)) at (if-room (now (out .entry)) at (text (desk .line) (reply (desk .clerk) (begun-line desk (now (kept .entry))))))
-        (now (out .exit)) (r .at) ⌝ }
+    ensures written { λ r. ⌜ Writes (now (out .entry)) at (if-room (now (out .entry)) at (reply-text desk (now (kept .entry)))) (now (out .exit)) (r .at) ⌝ }
     ensures near { λ r. ⌜ r .at ≤ at + longest ⌝ }
 {
     let clerk = desk.clerk;
@@ -103,8 +103,7 @@ fn reply_begun(desk: Desk, kept: &[u8], out: &mut [u8], at: usize) -> Replied
 fn answer(desk: Desk, kept: &[u8], out: &mut [u8], at: usize) -> Stepped
     requires { ⌜ (desk .begun ≤ kept-bytes) × (kept-bytes ≤ length (now kept)) × (desk .line ≤ last-answered) ⌝ }
     ensures next { λ r. ⌜ r .desk ≡ behind-newline desk (now (kept .entry)) ⌝ }
-    ensures written { λ r. ⌜ Writes (now (out .entry)) at (if-room (now (out .entry)) at (text (desk .line) (reply (desk .clerk) (begun-line desk (now (kept .entry))))))
-        (now (out .exit)) (r .at) ⌝ }
+    ensures written { λ r. ⌜ Writes (now (out .entry)) at (if-room (now (out .entry)) at (reply-text desk (now (kept .entry)))) (now (out .exit)) (r .at) ⌝ }
     ensures near { λ r. ⌜ r .at ≤ at + longest ⌝ }
 {
     let replied = reply_begun(desk, kept, out, at);

@@ -74,8 +74,7 @@ loop-again c =
     let test = asked .before .before in
     let room = sym (asked .has-room .ensures) ∙ not-false _ (roomy .if2 .left) in
     let promised = stepped .step .ensures in
-    one-on (test .before .loop .inv) (test .loop-test .taken) room _ (promised .0) _ (promised .1 .0) (stepped .step .kept .1 .0) _ _
-    (promised .1 .1 .0) (promised .1 .1 .1)
+    one-on (test .before .loop .inv) (test .loop-test .taken) room (promised .0) (promised .1 .0) (promised .1 .1 .0) (promised .1 .1 .1)
 
 same-length-4 : tie.Need-same-length-4 Inv-loop μ-loop
 same-length-4 c = c .before .loop .inv .kept-size

@@ -2,10 +2,9 @@
 use borrow.Author.Needs.{needs}
 use mathlib.Core.Path.{_∙_}
 use native.Mathlib.Omega.{arith}
-use Rattle.clerk.specs.Clerk.{reply}
-use Rattle.replies.specs.Text.{text, stop}
+use Rattle.replies.specs.Text.{stop}
 use Rattle.replies.proofs.Writing.{writes-none, writes-as}
-use Rattle.desk.specs.Steps.{begun-line}
+use Rattle.desk.specs.Steps.{reply-text}
 use Rattle.desk.proofs.Bytes.{all-written, when-closed, at-the-stop, at-a-newline, at-a-byte}
 use Rattle.desk.proofs.step.Statement.{statement}
 use Rattle.desk.proofs.step.Tie as tie
@@ -58,8 +57,7 @@ returns-3 c =
     let desk = start .args .desk in
     let kept = start .args .kept .now in
     let is = at-a-newline desk kept (start .args .b) (reading .if1 .left) (numbered .if2 .left) (newline .if3 .taken) in
-    let due = text (desk .line) (reply (desk .clerk) (begun-line desk kept)) in
-    let written = writes-as (is .2) (all-written due (start .pre .2) (answered .answer .ensures .1 .0)) in
+    let written = writes-as (is .2) (all-written (reply-text desk kept) (start .pre .2) (answered .answer .ensures .1 .0)) in
     (answered .answer .ensures .0 ∙ is .0, (is .1, (written, answered .answer .ensures .1 .1)))
 
 keep-requires : tie.Need-keep-requires
