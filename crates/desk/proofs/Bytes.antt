@@ -13,10 +13,13 @@ use Rattle.desk.specs.declared.Desk.{Desk}
 use Rattle.desk.specs.Desk.{last-answered}
 use Rattle.desk.specs.Steps.{kept-bytes, reply-text, stopped, behind-newline, longer, with-byte, next-desk, next-kept, prints, in-order}
 
-pub writes-nothing : (t : List ℕ) (at : ℕ) (p q : Bool) → Writes t at (cond p (cond q [] []) []) t at
-writes-nothing t at true true = writes-none t at
-writes-nothing t at true false = writes-none t at
-writes-nothing t at false q = writes-none t at
+-- where nothing is due nothing is written
+pub writes-nothing : {t : List ℕ} {at : ℕ} {bytes : List ℕ} → bytes ≡ [] → Writes t at (if-room t at bytes) t at
+writes-nothing {t} {at} none = rw none (by (leb (at + longest) (length t)))
+  where
+    by : (room : Bool) → Writes t at (cond room [] []) t at
+    by true = writes-none t at
+    by false = writes-none t at
 
 -- where there is room, all is written
 pub all-written : {t t′ : List ℕ} {at end : ℕ} (bytes : List ℕ) → at + longest ≤ length t → Writes t at (if-room t at bytes) t′ end → Writes t at bytes t′ end

@@ -1,12 +1,12 @@
 -- `desk::answer` meets its contract: the reply is written, and the desk stands before the next line.
 use borrow.Author.Needs.{needs}
-use Rattle.desk.proofs.answer.Statement.{statement}
-use Rattle.desk.proofs.answer.Tie as tie
 use mathlib.Core.Bool.{false}
 use mathlib.Core.Path.{ap}
 use Prim.Native.Nat.{_+_}
 use native.Mathlib.Omega.{arith}
 use Rattle.desk.specs.declared.Desk.{Desk}
+use Rattle.desk.proofs.answer.Statement.{statement}
+use Rattle.desk.proofs.answer.Tie as tie
 
 reply-begun-requires : tie.Need-reply-begun-requires
 reply-begun-requires c κs =

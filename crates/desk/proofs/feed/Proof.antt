@@ -3,8 +3,9 @@
 use mathlib.Core.Path.{refl, sym, _∙_}
 use Prim.Native.Nat.{_-_}
 use native.Mathlib.Omega.{arith}
-use borrow.Author.Tests.{not-true, not-false, leb-true}
+use borrow.Author.Tests.{not-true, not-false}
 use lib.ListN.{length}
+use Rattle.replies.proofs.Writing.{has-longest}
 use Rattle.desk.proofs.Feeding.{Midway, begin, out-size, one-on, no-room-left, no-byte-left, untouched}
 use Rattle.desk.proofs.feed.Statement.{statement}
 use Rattle.desk.proofs.feed.Tie as tie
@@ -50,7 +51,7 @@ step-requires c κs =
     let roomy = c .before .before .before in
     let asked = roomy .before in
     let turn = asked .before .before .before in
-    (turn .loop .inv .begun-few, turn .loop .inv .kept-room, leb-true _ _ (sym (asked .has-room .ensures) ∙ not-false _ (roomy .if2 .left)))
+    (turn .loop .inv .begun-few, turn .loop .inv .kept-room, has-longest _ _ (asked .has-room .ensures) (roomy .if2 .left))
 
 add-i : tie.Need-add-i Inv-loop μ-loop
 add-i c =

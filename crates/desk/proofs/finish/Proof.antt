@@ -1,46 +1,32 @@
 -- `desk::finish` meets its contract: the line that is begun is answered, or stopped at, if the desk has one and reads on.
 use borrow.Author.Needs.{needs}
-use Rattle.desk.specs.Desk.{last-answered}
-use Rattle.desk.proofs.finish.Statement.{statement}
-use Rattle.desk.proofs.finish.Tie as tie
-use mathlib.Core.Bool.{true}
-use mathlib.Core.Path.{sym, _∙_}
-use Prim.Native.Nat.{_+_}
+use mathlib.Core.Path.{refl, sym, _∙_}
 use native.Mathlib.Omega.{arith}
 use borrow.Author.Tests.{not-true, not-false, lt-ltb, le-ltb, eq-eqb, ne-eqb}
-use lib.Dec.{leb}
-use lib.ListN.{length}
-use Rattle.replies.specs.Text.{longest}
-use Rattle.desk.specs.Steps.{in-order}
+use Rattle.desk.specs.Desk.{last-answered}
 use Rattle.desk.proofs.Bytes.{writes-nothing, ordered}
+use Rattle.desk.proofs.finish.Statement.{statement}
+use Rattle.desk.proofs.finish.Tie as tie
 
 is-in-order-requires : tie.Need-is-in-order-requires
 is-in-order-requires c κs = search needs
 
 returns : tie.Need-returns
 returns c =
-    let start = c .before .before .before .before in
-    let out = start .args .out .now in
-    let at = start .args .at in
-    (rw (sym (c .before .is-in-order .ensures) ∙ not-true _ (c .if1 .taken)) (writes-nothing out at (leb (at + longest) (length out)) true), omega arith)
+    let wrong = sym (c .before .is-in-order .ensures) ∙ not-true _ (c .if1 .taken) in
+    (writes-nothing (rw wrong refl), omega arith)
 
 returns-2 : tie.Need-returns-2
 returns-2 c =
-    let start = c .before .before .before .before .before in
-    let out = start .args .out .now in
-    let at = start .args .at in
-    (rw (c .if2 .taken) (writes-nothing out at (leb (at + longest) (length out)) (in-order (start .args .desk) (start .args .kept .now))), omega arith)
+    let right = sym (c .before .before .is-in-order .ensures) ∙ not-false _ (c .before .if1 .left) in
+    (writes-nothing (rw (right, c .if2 .taken) refl), omega arith)
 
 returns-3 : tie.Need-returns-3
 returns-3 c =
     let reading = c .before .before in
-    let start = reading .before .before .before .before .before in
-    let out = start .args .out .now in
-    let at = start .args .at in (
-      rw (reading .if2 .left, eq-eqb _ 0 (c .if3 .taken))
-          (writes-nothing out at (leb (at + longest) (length out)) (in-order (start .args .desk) (start .args .kept .now))),
-      omega arith,
-    )
+    let ordered = reading .before in
+    let right = sym (ordered .before .is-in-order .ensures) ∙ not-false _ (ordered .if1 .left) in
+    (writes-nothing (rw (right, reading .if2 .left, eq-eqb _ 0 (c .if3 .taken)) refl), omega arith)
 
 reply-begun-requires : tie.Need-reply-begun-requires
 reply-begun-requires c κs =

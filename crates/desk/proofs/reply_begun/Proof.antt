@@ -1,12 +1,12 @@
 -- `desk::reply_begun` meets its contract: the clerk's reply to the line that is begun, as text.
 use borrow.Author.Needs.{needs}
-use Rattle.desk.proofs.reply_begun.Statement.{statement}
-use Rattle.desk.proofs.reply_begun.Tie as tie
 use mathlib.Core.Path.{sym, subst}
 use native.Mathlib.Omega.{arith}
 use lib.Seq.{length-take-le}
 use Rattle.clerk.specs.Clerk.{Said}
 use Rattle.replies.specs.Text.{text, Writes, if-room}
+use Rattle.desk.proofs.reply_begun.Statement.{statement}
+use Rattle.desk.proofs.reply_begun.Tie as tie
 
 slice-aggregate-handle : tie.Need-slice-aggregate-handle
 slice-aggregate-handle c =
