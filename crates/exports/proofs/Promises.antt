@@ -36,7 +36,8 @@ by-square-due w h x y n k e =
 
 -- and of any table of w·h places as a fill leaves it.
 module _ (w h : ℕ) (t : List ℕ) (size : length t ≡ w * h) where
-  pub by-number-holds : (i x y k : ℕ) → number-to-square w h i ≡ answered (x ∷ y ∷ k ∷ []) → getD (unless-refused (fill w h t) (by-number w h) t) i 0 ≡ y * w + x
+  pub by-number-holds : (i x y k : ℕ) → number-to-square w h i ≡ answered (x ∷ y ∷ k ∷ [])
+      → getD (unless-refused (fill w h t) (by-number w h) t) i 0 ≡ y * w + x
   by-number-holds i x y k e =
       let ok = number-asked w h i (x ∷ y ∷ k ∷ []) e .0 in
       ap (λ ds. getD ds i 0) (filled-so w h t (by-number w h) (that-length-filled w h t ok size)) ∙ by-number-due w h i x y k e

@@ -1,6 +1,6 @@
 -- Stores to a slice's first places, and what a call across the boundary comes to where its slice is too short and where it is not.
 use mathlib.Core.List.{List, [], _∷_, _++_}
-use mathlib.Core.Path.{_≡_, refl, ap, ap₂, _∙_}
+use mathlib.Core.Path.{_≡_, refl, sym, ap, ap₂, _∙_}
 use Prim.Native.Nat.{ℕ, _≤_, _<_}
 use native.Mathlib.Omega.{arith}
 use borrow.Author.Tests.{le-leb, lt-leb}
@@ -11,7 +11,7 @@ use Rattle.terms.specs.Terms.{Figures}
 use Rattle.clerk.specs.declared.Clerk.{Clerk}
 use Rattle.clerk.specs.declared.Reply.{Reply}
 use Rattle.clerk.specs.Clerk.{Said, said, after, reply}
-use Rattle.tables.specs.Tables.{unless-refused}
+use Rattle.tables.specs.Tables.{unless-refused, fill}
 use Rattle.exports.specs.Boundary.{returned, written, filled}
 use Rattle.exports.specs.Handling.{area-of, handled-figures, handled-by}
 
@@ -41,28 +41,40 @@ set-six s w h k x y z l =
 pub short : (n : ℕ) (f : Figures) (s : List ℕ) → length s < n → (255 ≡ returned n f s) × (s ≡ written n f s)
 short n f s l = rw (lt-leb n (length s) l) (refl, refl)
 
--- An answer's figures, as a call returns and writes them, are the figures that are due.
-pub told : (n : ℕ) {f g : Figures} (s : List ℕ) → g ≡ f → (r : ℕ) → r ≡ g .refusal → (last : List ℕ) → last ≡ g .values ++ drop n s
-    → (r ≡ f .refusal) × (last ≡ f .values ++ drop n s)
-told n s e r p last q = (p ∙ ap (λ h. h .refusal) e, q ∙ ap (λ h. h .values ++ drop n s) e)
+-- The figures of an answer are those of the case that it is.
+pub told : (n : ℕ) {A : Type 0} (figures : A → Figures) (s : List ℕ) {is case : A} → is ≡ case
+    → (r : ℕ) → r ≡ figures case .refusal → (last : List ℕ) → last ≡ figures case .values ++ drop n s
+    → (r ≡ figures is .refusal) × (last ≡ figures is .values ++ drop n s)
+told n figures s e r p last q = (p ∙ ap (λ a. figures a .refusal) (sym e), q ∙ ap (λ a. figures a .values ++ drop n s) (sym e))
 
+-- An answer's figures, as a call returns and writes them, are the figures that are due; and those of the case that a lookup's answer is.
 pub answer : (n : ℕ) {f g : Figures} (s : List ℕ) → n ≤ length s → g ≡ f → (r : ℕ) → r ≡ g .refusal → (last : List ℕ) → last ≡ g .values ++ drop n s
     → (r ≡ returned n f s) × (last ≡ written n f s)
-answer n s l e r p last q = rw (le-leb n (length s) l) (told n s e r p last q)
+answer n s l e r p last q = rw (le-leb n (length s) l) (told n (λ f. f) s (sym e) r p last q)
 
--- The table of a fill whose slice for the count is too short, or is not.
-pub short-kept : (f : Figures) (due table slice : List ℕ) → length slice < 1 → table ≡ filled f due table slice
-short-kept f due table slice l = rw (lt-leb 1 (length slice) l) refl
+pub found : (n : ℕ) {A : Type 0} (figures : A → Figures) {f : Figures} (s : List ℕ) → n ≤ length s → {is case : A} → is ≡ case → figures is ≡ f
+    → (r : ℕ) → r ≡ figures case .refusal → (last : List ℕ) → last ≡ figures case .values ++ drop n s
+    → (r ≡ returned n f s) × (last ≡ written n f s)
+found n figures s l e due r p last q = answer n s l (ap figures (sym e) ∙ due) r p last q
 
-pub table-filled : (f : Figures) (due table slice : List ℕ) → 1 ≤ length slice → (last : List ℕ) → last ≡ unless-refused f due table
-    → last ≡ filled f due table slice
-table-filled f due table slice l last e = rw (le-leb 1 (length slice) l) e
+-- A fill, by the list that is due: its slice for the count is too short, and the table is kept; or it is not.
+module _ (w h : ℕ) (due : ℕ → ℕ → List ℕ) (table slice : List ℕ) where
+  pub fill-short : length slice < 1
+      → (255 ≡ returned 1 (fill w h table) slice) × (slice ≡ written 1 (fill w h table) slice) × (table ≡ filled (fill w h table) (due w h) table slice)
+  fill-short l = rw (lt-leb 1 (length slice) l) (refl, refl, refl)
+
+  pub fill-told : 1 ≤ length slice → {g : Figures} → g ≡ fill w h table → (left : List ℕ) → left ≡ unless-refused (fill w h table) (due w h) table
+      → (r : ℕ) → r ≡ g .refusal → (last : List ℕ) → last ≡ g .values ++ drop 1 slice
+      → (r ≡ returned 1 (fill w h table) slice) × (last ≡ written 1 (fill w h table) slice) × (left ≡ filled (fill w h table) (due w h) table slice)
+  fill-told l e left f r p last q =
+      let both = told 1 (λ g. g) slice (sym e) r p last q in
+      rw (le-leb 1 (length slice) l) (both .0, both .1, f)
 
 -- What the clerk hands back, as figures, is what is due of a clerk under the caller's area.
 abbrev pub shown-under : Area → Reply → Figures
 shown-under area r = handled-figures area (said r)
 
-pub handled-as : {under clerk : Clerk} {area : Area} {s : Said} {from : Clerk} (line : List ℕ) → under ≡ from → (clerk ≡ after under line) × (s ≡ reply under line)
-    → area ≡ area-of clerk → handled-figures area s ≡ handled-by from line
+pub handled-as : {under clerk : Clerk} {area : Area} {s : Said} {from : Clerk} (line : List ℕ) → under ≡ from
+    → (clerk ≡ after under line) × (s ≡ reply under line) → area ≡ area-of clerk → handled-figures area s ≡ handled-by from line
 handled-as line begun both held =
     ap₂ handled-figures (held ∙ ap area-of (both .0)) (both .1) ∙ ap (λ k. handled-by k line) begun

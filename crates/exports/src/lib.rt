@@ -242,7 +242,8 @@ fn area_in_force(clerk: Clerk) -> Area
 // A reply under the area then in force: 1 for AREA, 2 for CELL, 3 for NUMBER, with its values, or a refusal.
 fn tell_reply(area: Area, reply: Reply, result: &mut [u32]) -> u32
     requires { ⌜ 6 ≤ length (now result) ⌝ }
-    ensures { λ r. ⌜ (r ≡ handled-figures area (said reply) .refusal) × (now (result .exit) ≡ handled-figures area (said reply) .values ++ drop 6 (now (result .entry))) ⌝ }
+    ensures { λ r. ⌜ (r ≡ handled-figures area (said reply) .refusal)
+        × (now (result .exit) ≡ handled-figures area (said reply) .values ++ drop 6 (now (result .entry))) ⌝ }
 {
     match reply {
         Reply::AreaSet {

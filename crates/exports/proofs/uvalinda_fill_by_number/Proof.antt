@@ -1,48 +1,28 @@
 -- `exports::uvalinda_fill_by_number` meets its contract: what the fill leaves and answers, told.
 use borrow.Author.Needs.{needs}
-use Rattle.tables.specs.Tables.{by-number, fill}
-use Rattle.exports.proofs.Values.{short, answer, short-kept, table-filled}
+use Rattle.tables.specs.Tables.{by-number}
+use Rattle.exports.proofs.Values.{fill-short, fill-told}
 use Rattle.exports.proofs.uvalinda_fill_by_number.Statement.{statement}
 use Rattle.exports.proofs.uvalinda_fill_by_number.Tie as tie
 
 returns : tie.Need-returns
 returns c =
-    let w = c .before .before .before .args .w in
-    let h = c .before .before .before .args .h in
-    let t = c .before .before .before .args .table .now in
-    let slice = c .before .before .before .args .blocks .now in
-    let two = short 1 (fill w h t) slice (c .if1 .taken) in
-    (two .0, two .1, short-kept (fill w h t) (by-number w h) t slice (c .if1 .taken))
-
-fill-by-number-requires : tie.Need-fill-by-number-requires
-fill-by-number-requires c κs = search needs
+    let start = c .before .before .before .args in
+    fill-short (start .w) (start .h) by-number (start .table .now) (start .blocks .now) (c .if1 .taken)
 
 tell-fill-requires : tie.Need-tell-fill-requires
 tell-fill-requires c κs = search needs
 
-same-length : tie.Need-same-length
-same-length c = search needs
-
-same-length-2 : tie.Need-same-length-2
-same-length-2 c = search needs
-
 returns-2 : tie.Need-returns-2
 returns-2 c =
-    let w = c .before .before .before .before .before .before .before .before .before .before .before .args .w in
-    let h = c .before .before .before .before .before .before .before .before .before .before .before .args .h in
-    let t = c .before .before .before .before .before .before .before .before .before .before .before .args .table .now in
-    let slice = c .before .before .before .before .before .before .before .before .before .before .before .args .blocks .now in
     let told = c .before .before .tell-fill .ensures in
-    let two = answer 1 slice (c .before .before .before .before .before .before .before .before .if1 .left) (c .before .before .before .before .before .before .fill-by-number .ensures .0) _ (told .0) _ (told .1) in
-    (two .0, two .1, table-filled (fill w h t) (by-number w h) t slice (c .before .before .before .before .before .before .before .before .if1 .left) _ (c .before .before .before .before .before .before .fill-by-number .ensures .1))
+    let by-number-filled = c .before .before .before .before .before .before in
+    let tested = by-number-filled .before .before in
+    let start = tested .before .before .before .args in
+    let left = by-number-filled .fill-by-number .ensures in
+    fill-told (start .w) (start .h) by-number (start .table .now) (start .blocks .now) (tested .if1 .left) (left .0) _ (left .1) _ (told .0) _ (told .1)
 
 pub uvalinda-fill-by-number-spec : {M : Type 1} → statement M
 uvalinda-fill-by-number-spec =
     tie.close
-    (tie.spec
-    returns
-    fill-by-number-requires
-    tell-fill-requires
-    same-length
-    same-length-2
-    returns-2)
+    (tie.spec returns (λ c κs. search needs) tell-fill-requires (λ c. search needs) (λ c. search needs) returns-2)

@@ -6,34 +6,25 @@ use Rattle.exports.proofs.uvalinda_handle_line.Statement.{statement}
 use Rattle.exports.proofs.uvalinda_handle_line.Tie as tie
 
 returns : tie.Need-returns
-returns c = short 6 (handled (c .before .before .before .args .w) (c .before .before .before .args .h) (c .before .before .before .args .line .now)) (c .before .before .before .args .result .now) (c .if1 .taken)
-
-clerk-under-requires : tie.Need-clerk-under-requires
-clerk-under-requires c κs = search needs
-
-handle-requires : tie.Need-handle-requires
-handle-requires c κs = search needs
-
-area-in-force-requires : tie.Need-area-in-force-requires
-area-in-force-requires c κs = search needs
+returns c =
+    let start = c .before .before .before .args in
+    short 6 (handled (start .w) (start .h) (start .line .now)) (start .result .now) (c .if1 .taken)
 
 tell-reply-requires : tie.Need-tell-reply-requires
 tell-reply-requires c κs = search needs
 
-same-length : tie.Need-same-length
-same-length c = search needs
-
 returns-2 : tie.Need-returns-2
-returns-2 c = answer 6 (c .before .before .before .before .before .before .before .before .before .before .args .result .now) (c .before .before .before .before .before .before .before .if1 .left) (handled-as (c .before .before .before .before .before .before .before .before .before .before .args .line .now) (c .before .before .before .before .before .before .clerk-under .ensures) (c .before .before .before .before .before .handle .ensures) (c .before .before .before .before .area-in-force .ensures)) _ (c .before .before .tell-reply .ensures .0) _ (c .before .before .tell-reply .ensures .1)
+returns-2 c =
+    let told = c .before .before .tell-reply .ensures in
+    let area = c .before .before .before .before in
+    let handled-line = area .before in
+    let begun = handled-line .before in
+    let tested = begun .before in
+    let start = tested .before .before .before .args in
+    let due = handled-as (start .line .now) (begun .clerk-under .ensures) (handled-line .handle .ensures) (area .area-in-force .ensures) in
+    answer 6 (start .result .now) (tested .if1 .left) due _ (told .0) _ (told .1)
 
 pub uvalinda-handle-line-spec : {M : Type 1} → statement M
 uvalinda-handle-line-spec =
     tie.close
-    (tie.spec
-    returns
-    clerk-under-requires
-    handle-requires
-    area-in-force-requires
-    tell-reply-requires
-    same-length
-    returns-2)
+    (tie.spec returns (λ c κs. search needs) (λ c κs. search needs) (λ c κs. search needs) tell-reply-requires (λ c. search needs) returns-2)

@@ -1,56 +1,40 @@
 -- `exports::uvalinda_square_to_number` meets its contract: the answer's figures, as the lookup ensures them, in the slice's first places.
 use borrow.Author.Needs.{needs}
-use mathlib.Core.Path.{sym, ap, refl, _∙_}
+use mathlib.Core.Path.{refl}
 use Rattle.curve.specs.Lookups.{square-to-number, number-figures}
-use Rattle.exports.proofs.Values.{short, answer}
+use Rattle.exports.proofs.Values.{short, found}
 use Rattle.exports.proofs.uvalinda_square_to_number.Statement.{statement}
 use Rattle.exports.proofs.uvalinda_square_to_number.Tie as tie
 
 returns : tie.Need-returns
-returns c = short 2 (square-to-number (c .before .before .args .w) (c .before .before .args .h) (c .before .before .args .x) (c .before .before .args .y)) (c .before .before .args .result .now) (c .if1 .taken)
-
-square-to-number-requires : tie.Need-square-to-number-requires
-square-to-number-requires c κs = search needs
-
-enum-known-answer : tie.Need-enum-known-answer
-enum-known-answer c = search needs
+returns c =
+    let start = c .before .before .args in
+    short 2 (square-to-number (start .w) (start .h) (start .x) (start .y)) (start .result .now) (c .if1 .taken)
 
 put-two-requires : tie.Need-put-two-requires
 put-two-requires c κs = search needs
 
-enum-known-answer-2 : tie.Need-enum-known-answer-2
-enum-known-answer-2 c = search needs
-
 put-two-requires-2 : tie.Need-put-two-requires-2
 put-two-requires-2 c κs = search needs
 
-refusal-number-requires : tie.Need-refusal-number-requires
-refusal-number-requires c κs = search needs
-
-same-length : tie.Need-same-length
-same-length c = search needs
-
 returns-2 : tie.Need-returns-2
-returns-2 c = answer 2 (c .before .before .before .before .before .before .before .before .before .before .args .result .now) (c .before .before .before .before .before .before .before .before .if1 .left) (ap number-figures (sym (c .before .before .before .before .before .answer .given .1)) ∙ c .before .before .before .before .before .before .before .square-to-number .ensures) 0 refl (c .before .before .put-two .last .0) (c .before .before .put-two .ensures)
-
-same-length-2 : tie.Need-same-length-2
-same-length-2 c = search needs
+returns-2 c =
+    let known = c .before .before .before .before .before in
+    let number = known .before .before in
+    let tested = number .before in
+    found 2 number-figures (tested .before .before .args .result .now) (tested .if1 .left) (known .answer .given .1) (number .square-to-number .ensures)
+    0 refl _ (c .before .before .put-two .ensures)
 
 returns-3 : tie.Need-returns-3
-returns-3 c = answer 2 (c .before .before .before .before .before .before .before .before .before .before .before .args .result .now) (c .before .before .before .before .before .before .before .before .before .if1 .left) (ap number-figures (sym (c .before .before .before .before .before .before .answer2 .given .1)) ∙ c .before .before .before .before .before .before .before .before .square-to-number .ensures) (c .refusal-number .result) (c .refusal-number .ensures) (c .before .before .before .put-two2 .last .0) (c .before .before .before .put-two2 .ensures)
+returns-3 c =
+    let known = c .before .before .before .before .before .before in
+    let number = known .before .before in
+    let tested = number .before in
+    found 2 number-figures (tested .before .before .args .result .now) (tested .if1 .left) (known .answer2 .given .1) (number .square-to-number .ensures)
+    _ (c .refusal-number .ensures) _ (c .before .before .before .put-two2 .ensures)
 
 pub uvalinda-square-to-number-spec : {M : Type 1} → statement M
 uvalinda-square-to-number-spec =
     tie.close
-    (tie.spec
-    returns
-    square-to-number-requires
-    enum-known-answer
-    put-two-requires
-    enum-known-answer-2
-    put-two-requires-2
-    refusal-number-requires
-    same-length
-    returns-2
-    same-length-2
-    returns-3)
+    (tie.spec returns (λ c κs. search needs) (λ c. search needs) put-two-requires (λ c. search needs) put-two-requires-2 (λ c κs. search needs)
+    (λ c. search needs) returns-2 (λ c. search needs) returns-3)
