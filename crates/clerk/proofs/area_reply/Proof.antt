@@ -9,12 +9,6 @@ use Rattle.clerk.proofs.Handling.{call-refused, found-fits}
 use Rattle.clerk.proofs.area_reply.Statement.{statement}
 use Rattle.clerk.proofs.area_reply.Tie as tie
 
-finish-square-requires : tie.Need-finish-square-requires
-finish-square-requires c κs = search needs
-
-enum-known-x : tie.Need-enum-known-x
-enum-known-x c = search needs
-
 mul-t9 : tie.Need-mul-t9
 mul-t9 c =
     let x = c .before in
@@ -24,9 +18,6 @@ mul-t9 c =
       fits = found-fits (start .args .w) (start .args .h) (x .x .given .0 .0) (x .x .given .0 .1 .0)
           (ap finish-figures (sym (x .x .given .1)) ∙ finish-square .finish-square .ensures);
     }
-
-enum-known-r : tie.Need-enum-known-r
-enum-known-r c = search needs
 
 returns : tie.Need-returns
 returns c =
@@ -47,4 +38,5 @@ returns-2 c =
 
 pub area-reply-spec : {M : Type 1} → statement M
 area-reply-spec =
-    tie.close (tie.spec finish-square-requires enum-known-x mul-t9 enum-known-r returns returns-2)
+    tie.close
+    (tie.spec (λ c κs. search needs) (λ c. search needs) mul-t9 (λ c. search needs) returns returns-2)

@@ -8,15 +8,6 @@ use Rattle.clerk.proofs.Handling.{call-refused}
 use Rattle.clerk.proofs.cell_reply.Statement.{statement}
 use Rattle.clerk.proofs.cell_reply.Tie as tie
 
-number-to-square-requires : tie.Need-number-to-square-requires
-number-to-square-requires c κs = search needs
-
-enum-known-x : tie.Need-enum-known-x
-enum-known-x c = search needs
-
-enum-known-r : tie.Need-enum-known-r
-enum-known-r c = search needs
-
 returns : tie.Need-returns
 returns c = ap (from-call Cell []) (ap square-figures (sym (c .before .x .given .1)) ∙ c .before .before .before .number-to-square .ensures)
 
@@ -27,4 +18,5 @@ returns-2 c =
 
 pub cell-reply-spec : {M : Type 1} → statement M
 cell-reply-spec =
-    tie.close (tie.spec number-to-square-requires enum-known-x enum-known-r returns returns-2)
+    tie.close
+    (tie.spec (λ c κs. search needs) (λ c. search needs) (λ c. search needs) returns returns-2)

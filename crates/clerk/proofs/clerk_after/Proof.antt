@@ -8,21 +8,6 @@ use Rattle.clerk.proofs.Handling.{left-none, left-alone, left-asked}
 use Rattle.clerk.proofs.clerk_after.Statement.{statement}
 use Rattle.clerk.proofs.clerk_after.Tie as tie
 
-enum-known-asked : tie.Need-enum-known-asked
-enum-known-asked c = search needs
-
-clerk-under-requires : tie.Need-clerk-under-requires
-clerk-under-requires c κs = search needs
-
-enum-told : tie.Need-enum-told
-enum-told c = search needs
-
-slice-aggregate-begins-with : tie.Need-slice-aggregate-begins-with
-slice-aggregate-begins-with c = search needs
-
-begins-with-requires : tie.Need-begins-with-requires
-begins-with-requires c κs = search needs
-
 returns : tie.Need-returns
 returns c =
     let match = c .before .before .before in
@@ -46,13 +31,5 @@ returns-4 c = let start = c .before .before in left-asked (start .args .clerk) (
 pub clerk-after-spec : {M : Type 1} → statement M
 clerk-after-spec =
     tie.close
-    (tie.spec
-    enum-known-asked
-    clerk-under-requires
-    enum-told
-    slice-aggregate-begins-with
-    begins-with-requires
-    returns
-    returns-2
-    returns-3
+    (tie.spec (λ c. search needs) (λ c κs. search needs) (λ c. search needs) (λ c. search needs) (λ c κs. search needs) returns returns-2 returns-3
     returns-4)

@@ -4,9 +4,6 @@ use mathlib.Core.Path.{sym, _∙_}
 use Rattle.clerk.proofs.clerk_under.Statement.{statement}
 use Rattle.clerk.proofs.clerk_under.Tie as tie
 
-accepts-requires : tie.Need-accepts-requires
-accepts-requires c κs = search needs
-
 returns : tie.Need-returns
 returns c = sym (rw (sym (c .before .accepts .ensures) ∙ c .if1 .taken))
 
@@ -14,4 +11,5 @@ returns-2 : tie.Need-returns-2
 returns-2 c = sym (rw (sym (c .before .accepts .ensures) ∙ c .if1 .left))
 
 pub clerk-under-spec : {M : Type 1} → statement M
-clerk-under-spec = tie.close (tie.spec accepts-requires returns returns-2)
+clerk-under-spec = tie.close
+    (tie.spec (λ c κs. search needs) returns returns-2)

@@ -8,15 +8,6 @@ use Rattle.clerk.proofs.Handling.{call-refused}
 use Rattle.clerk.proofs.number_reply.Statement.{statement}
 use Rattle.clerk.proofs.number_reply.Tie as tie
 
-square-to-number-requires : tie.Need-square-to-number-requires
-square-to-number-requires c κs = search needs
-
-enum-known-number : tie.Need-enum-known-number
-enum-known-number c = search needs
-
-enum-known-r : tie.Need-enum-known-r
-enum-known-r c = search needs
-
 returns : tie.Need-returns
 returns c = ap (from-call Number []) (ap number-figures (sym (c .before .number .given .1)) ∙ c .before .before .before .square-to-number .ensures)
 
@@ -27,4 +18,5 @@ returns-2 c =
 
 pub number-reply-spec : {M : Type 1} → statement M
 number-reply-spec =
-    tie.close (tie.spec square-to-number-requires enum-known-number enum-known-r returns returns-2)
+    tie.close
+    (tie.spec (λ c κs. search needs) (λ c. search needs) (λ c. search needs) returns returns-2)

@@ -5,39 +5,6 @@ use Rattle.clerk.specs.Clerk.{reply-to}
 use Rattle.clerk.proofs.reply_to.Statement.{statement}
 use Rattle.clerk.proofs.reply_to.Tie as tie
 
-enum-known-asked : tie.Need-enum-known-asked
-enum-known-asked c = search needs
-
-area-reply-requires : tie.Need-area-reply-requires
-area-reply-requires c κs = search needs
-
-enum-known-asked-2 : tie.Need-enum-known-asked-2
-enum-known-asked-2 c = search needs
-
-enum-told : tie.Need-enum-told
-enum-told c = search needs
-
-enum-known-clerk : tie.Need-enum-known-clerk
-enum-known-clerk c = search needs
-
-cell-reply-requires : tie.Need-cell-reply-requires
-cell-reply-requires c κs = search needs
-
-enum-known-asked-3 : tie.Need-enum-known-asked-3
-enum-known-asked-3 c = search needs
-
-enum-told-2 : tie.Need-enum-told-2
-enum-told-2 c = search needs
-
-enum-known-clerk-2 : tie.Need-enum-known-clerk-2
-enum-known-clerk-2 c = search needs
-
-number-reply-requires : tie.Need-number-reply-requires
-number-reply-requires c κs = search needs
-
-enum-known-asked-4 : tie.Need-enum-known-asked-4
-enum-known-asked-4 c = search needs
-
 returns : tie.Need-returns
 returns c = c .area-reply .ensures ∙ ap (reply-to (c .before .before .before .before .args .clerk)) (sym (c .before .before .asked .given .1))
 
@@ -59,21 +26,6 @@ returns-6 c = ap (reply-to (c .before .before .before .args .clerk)) (sym (c .be
 pub reply-to-spec : {M : Type 1} → statement M
 reply-to-spec =
     tie.close
-    (tie.spec
-    enum-known-asked
-    area-reply-requires
-    enum-known-asked-2
-    enum-told
-    enum-known-clerk
-    cell-reply-requires
-    enum-known-asked-3
-    enum-told-2
-    enum-known-clerk-2
-    number-reply-requires
-    enum-known-asked-4
-    returns
-    returns-2
-    returns-3
-    returns-4
-    returns-5
-    returns-6)
+    (tie.spec (λ c. search needs) (λ c κs. search needs) (λ c. search needs) (λ c. search needs) (λ c. search needs) (λ c κs. search needs)
+    (λ c. search needs) (λ c. search needs) (λ c. search needs) (λ c κs. search needs) (λ c. search needs) returns returns-2 returns-3 returns-4
+    returns-5 returns-6)

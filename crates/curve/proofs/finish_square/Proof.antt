@@ -5,12 +5,6 @@ use Rattle.curve.proofs.Answers.{finish-found, finish-limit}
 use Rattle.curve.proofs.finish_square.Statement.{statement}
 use Rattle.curve.proofs.finish_square.Tie as tie
 
-accepts-requires : tie.Need-accepts-requires
-accepts-requires c κs = search needs
-
-area-refusal-requires : tie.Need-area-refusal-requires
-area-refusal-requires c κs = search needs
-
 returns : tie.Need-returns
 returns c =
     let test = c .before in
@@ -33,4 +27,5 @@ returns-2 c =
 
 pub finish-square-spec : {M : Type 1} → statement M
 finish-square-spec =
-    tie.close (tie.spec accepts-requires area-refusal-requires returns sub-t6 returns-2)
+    tie.close
+    (tie.spec (λ c κs. search needs) (λ c κs. search needs) returns sub-t6 returns-2)

@@ -5,12 +5,6 @@ use Rattle.curve.proofs.Answers.{descends, square-deep, square-found, n
 use Rattle.curve.proofs.number_to_square.Statement.{statement}
 use Rattle.curve.proofs.number_to_square.Tie as tie
 
-accepts-requires : tie.Need-accepts-requires
-accepts-requires c κs = search needs
-
-area-refusal-requires : tie.Need-area-refusal-requires
-area-refusal-requires c κs = search needs
-
 returns : tie.Need-returns
 returns c =
     let test = c .before in
@@ -67,12 +61,4 @@ returns-4 c =
 pub number-to-square-spec : {M : Type 1} → statement M
 number-to-square-spec =
     tie.close
-    (tie.spec
-    accepts-requires
-    area-refusal-requires
-    returns
-    mul-if2
-    returns-2
-    square-at-requires
-    returns-3
-    returns-4)
+    (tie.spec (λ c κs. search needs) (λ c κs. search needs) returns mul-if2 returns-2 square-at-requires returns-3 returns-4)

@@ -5,12 +5,6 @@ use Rattle.curve.proofs.Answers.{searches, number-deep, number-found, x
 use Rattle.curve.proofs.square_to_number.Statement.{statement}
 use Rattle.curve.proofs.square_to_number.Tie as tie
 
-accepts-requires : tie.Need-accepts-requires
-accepts-requires c κs = search needs
-
-area-refusal-requires : tie.Need-area-refusal-requires
-area-refusal-requires c κs = search needs
-
 returns : tie.Need-returns
 returns c =
     let test = c .before in
@@ -78,12 +72,4 @@ returns-5 c =
 pub square-to-number-spec : {M : Type 1} → statement M
 square-to-number-spec =
     tie.close
-    (tie.spec
-    accepts-requires
-    area-refusal-requires
-    returns
-    returns-2
-    returns-3
-    number-at-requires
-    returns-4
-    returns-5)
+    (tie.spec (λ c κs. search needs) (λ c κs. search needs) returns returns-2 returns-3 number-at-requires returns-4 returns-5)

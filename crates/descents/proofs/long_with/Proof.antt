@@ -15,9 +15,6 @@ use Rattle.descents.proofs.PartWithNumber.{rest-of, long-enters}
 use Rattle.descents.proofs.long_with.Statement.{statement}
 use Rattle.descents.proofs.long_with.Tie as tie
 
-even-half-requires : tie.Need-even-half-requires
-even-half-requires c κs = search needs
-
 mul-second : tie.Need-mul-second
 mul-second c =
     let k = c .before .before .args .k in
@@ -28,9 +25,6 @@ mul-second c =
 
 long-part-requires : tie.Need-long-part-requires
 long-part-requires c κs = search needs
-
-either-requires : tie.Need-either-requires
-either-requires c κs = search needs
 
 mul-t7 : tie.Need-mul-t7
 mul-t7 c =
@@ -63,11 +57,4 @@ returns c =
 pub long-with-spec : {M : Type 1} → statement M
 long-with-spec =
     tie.close
-    (tie.spec
-    even-half-requires
-    mul-second
-    long-part-requires
-    either-requires
-    mul-t7
-    sub-t8
-    returns)
+    (tie.spec (λ c κs. search needs) mul-second long-part-requires (λ c κs. search needs) mul-t7 sub-t8 returns)

@@ -14,20 +14,8 @@ packed-by : (along across blocks : ℕ) (turned : Bool)
 packed-by along across blocks true = refl
 packed-by along across blocks false = refl
 
-either-requires : tie.Need-either-requires
-either-requires c κs = search needs
-
-either-requires-2 : tie.Need-either-requires-2
-either-requires-2 c κs = search needs
-
-cast-result : tie.Need-cast-result
-cast-result c = search needs
-
 mul-result : tie.Need-mul-result
 mul-result c = search needs
-
-cast-result-2 : tie.Need-cast-result-2
-cast-result-2 c = search needs
 
 add-result : tie.Need-add-result
 add-result c = search needs
@@ -47,13 +35,5 @@ returns c =
 pub pack-square-spec : {M : Type 1} → statement M
 pack-square-spec =
     tie.close
-    (tie.spec
-    either-requires
-    either-requires-2
-    cast-result
-    mul-result
-    cast-result-2
-    add-result
-    mul-result-2
-    add-result-2
+    (tie.spec (λ c κs. search needs) (λ c κs. search needs) (λ c. search needs) mul-result (λ c. search needs) add-result mul-result-2 add-result-2
     returns)

@@ -8,9 +8,6 @@ use Rattle.descents.proofs.square_at.Tie as tie
 descend-requires : tie.Need-descend-requires
 descend-requires c κs = from-whole (c .args .w) (c .args .h) (c .args .number) (c .pre)
 
-unpack-square-requires : tie.Need-unpack-square-requires
-unpack-square-requires c κs = search needs
-
 returns : tie.Need-returns
 returns c =
     let start = c .before .before in
@@ -18,4 +15,5 @@ returns c =
     ∙ unpacked-is (start .args .w) (start .args .h) (start .args .number) (start .pre) (c .before .descend .result) (c .before .descend .ensures)
 
 pub square-at-spec : {M : Type 1} → statement M
-square-at-spec = tie.close (tie.spec descend-requires unpack-square-requires returns)
+square-at-spec = tie.close
+    (tie.spec descend-requires (λ c κs. search needs) returns)

@@ -10,9 +10,6 @@ use Rattle.descents.proofs.PartWithNumber.{block-sums, a-enters, b-ente
 use Rattle.descents.proofs.u_with.Statement.{statement}
 use Rattle.descents.proofs.u_with.Tie as tie
 
-even-half-requires : tie.Need-even-half-requires
-even-half-requires c κs = search needs
-
 mul-to-b : tie.Need-mul-to-b
 mul-to-b c =
     let start = c .before .before in
@@ -84,15 +81,4 @@ returns-3 c =
 pub u-with-spec : {M : Type 1} → statement M
 u-with-spec =
     tie.close
-    (tie.spec
-    even-half-requires
-    mul-to-b
-    part-a-requires
-    returns
-    sub-to-c
-    mul-to-c
-    add-to-c
-    part-b-requires
-    returns-2
-    part-c-requires
-    returns-3)
+    (tie.spec (λ c κs. search needs) mul-to-b part-a-requires returns sub-to-c mul-to-c add-to-c part-b-requires returns-2 part-c-requires returns-3)

@@ -9,9 +9,6 @@ use Rattle.searches.proofs.number_at.Tie as tie
 search-requires : tie.Need-search-requires
 search-requires c κs = search needs
 
-unpack-number-requires : tie.Need-unpack-number-requires
-unpack-number-requires c κs = search needs
-
 returns : tie.Need-returns
 returns c =
     let asked = c .before .before .args in
@@ -19,4 +16,5 @@ returns c =
     c .unpack-number .ensures ∙ unpacked-is (spot-at (asked .w) (asked .h) (asked .x) (asked .y)) (c .before .before .pre) (found .result) (found .ensures)
 
 pub number-at-spec : {M : Type 1} → statement M
-number-at-spec = tie.close (tie.spec search-requires unpack-number-requires returns)
+number-at-spec = tie.close
+    (tie.spec search-requires (λ c κs. search needs) returns)

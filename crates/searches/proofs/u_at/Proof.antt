@@ -7,9 +7,6 @@ use Rattle.searches.proofs.PartWithSquare.{u-two, spot-sums, a-leads, b
 use Rattle.searches.proofs.u_at.Statement.{statement}
 use Rattle.searches.proofs.u_at.Tie as tie
 
-even-half-requires : tie.Need-even-half-requires
-even-half-requires c κs = search needs
-
 mul-to-b : tie.Need-mul-to-b
 mul-to-b c =
     let start = c .before .before in
@@ -39,9 +36,6 @@ returns c =
     let start = half .before in
     b-leads (start .args .s) (start .args .before) (start .pre .0) (start .pre .1) (half .even-half .result) (half .even-half .ensures) (c .in-b .result)
     (c .in-b .ensures) (c .before .if1 .taken)
-
-in-a-requires : tie.Need-in-a-requires
-in-a-requires c κs = search needs
 
 returns-2 : tie.Need-returns-2
 returns-2 c =
@@ -101,17 +95,5 @@ returns-3 c =
 pub u-at-spec : {M : Type 1} → statement M
 u-at-spec =
     tie.close
-    (tie.spec
-    even-half-requires
-    mul-to-b
-    in-b-requires
-    add-t10
-    returns
-    in-a-requires
-    returns-2
-    in-c-requires
-    add-t8
-    sub-t11
-    mul-t12
-    add-t13
-    returns-3)
+    (tie.spec (λ c κs. search needs) mul-to-b in-b-requires add-t10 returns (λ c κs. search needs) returns-2 in-c-requires add-t8 sub-t11 mul-t12
+    add-t13 returns-3)

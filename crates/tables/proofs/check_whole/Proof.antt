@@ -8,12 +8,6 @@ use Rattle.tables.proofs.Judged.{right-is, wrong-is}
 use Rattle.tables.proofs.check_whole.Statement.{statement}
 use Rattle.tables.proofs.check_whole.Tie as tie
 
-accepts-requires : tie.Need-accepts-requires
-accepts-requires c κs = search needs
-
-area-refusal-requires : tie.Need-area-refusal-requires
-area-refusal-requires c κs = search needs
-
 returns : tie.Need-returns
 unfolding check
 returns c =
@@ -23,12 +17,6 @@ returns c =
     let area = start .args .area in
     let bad = is-refused (area .w) (area .h) (judged .accepts .ensures) (test .if1 .taken) in
     area-refused (area .w) (area .h) _ 3 _ bad (c .area-refusal .result) (c .area-refusal .ensures)
-
-cast-if2 : tie.Need-cast-if2
-cast-if2 c = search needs
-
-cast-if2-2 : tie.Need-cast-if2-2
-cast-if2-2 c = search needs
 
 mul-if2 : tie.Need-mul-if2
 mul-if2 c =
@@ -58,12 +46,6 @@ mul-wrong-word c =
     let ok = is-accepted (area .w) (area .h) (judged .accepts .ensures) (first .if1 .left) in
     record { fits = squares-limit (area .w) (area .h) ok }
 
-wrong-word-requires : tie.Need-wrong-word-requires
-wrong-word-requires c κs = search needs
-
-whole-block-requires : tie.Need-whole-block-requires
-whole-block-requires c κs = search needs
-
 check-block-requires : tie.Need-check-block-requires
 check-block-requires c κs =
     let second = c .before .before in
@@ -89,9 +71,6 @@ returns-3 c =
     right-is (area .w) (area .h) ok (asked .by-square) (asked .table .now) (second .if2 .left) _ (block .whole-block .ensures)
     (word .wrong-word .result) (word .wrong-word .ensures) (checked .check-block .result) (checked .check-block .ensures) (c .if3 .taken)
 
-wrong-in-requires : tie.Need-wrong-in-requires
-wrong-in-requires c κs = search needs
-
 returns-4 : tie.Need-returns-4
 returns-4 c =
     let test = c .before in
@@ -112,18 +91,5 @@ returns-4 c =
 pub check-whole-spec : {M : Type 1} → statement M
 check-whole-spec =
     tie.close
-    (tie.spec
-    accepts-requires
-    area-refusal-requires
-    returns
-    cast-if2
-    cast-if2-2
-    mul-if2
-    returns-2
-    mul-wrong-word
-    wrong-word-requires
-    whole-block-requires
-    check-block-requires
-    returns-3
-    wrong-in-requires
-    returns-4)
+    (tie.spec (λ c κs. search needs) (λ c κs. search needs) returns (λ c. search needs) (λ c. search needs) mul-if2 returns-2 mul-wrong-word
+    (λ c κs. search needs) (λ c κs. search needs) check-block-requires returns-3 (λ c κs. search needs) returns-4)

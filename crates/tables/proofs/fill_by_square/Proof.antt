@@ -3,14 +3,9 @@ use borrow.Author.Needs.{needs}
 use Rattle.tables.proofs.fill_by_square.Statement.{statement}
 use Rattle.tables.proofs.fill_by_square.Tie as tie
 
-fill-whole-requires : tie.Need-fill-whole-requires
-fill-whole-requires c κs = search needs
-
-same-length : tie.Need-same-length
-same-length c = search needs
-
 returns : tie.Need-returns
 returns c = c .before .before .fill-whole .ensures
 
 pub fill-by-square-spec : {M : Type 1} → statement M
-fill-by-square-spec = tie.close (tie.spec fill-whole-requires same-length returns)
+fill-by-square-spec = tie.close
+    (tie.spec (λ c κs. search needs) (λ c. search needs) returns)

@@ -15,12 +15,6 @@ use Rattle.tables.proofs.PlaceByPlace.{due-table}
 use Rattle.tables.proofs.fill_whole.Statement.{statement}
 use Rattle.tables.proofs.fill_whole.Tie as tie
 
-accepts-requires : tie.Need-accepts-requires
-accepts-requires c κs = search needs
-
-area-refusal-requires : tie.Need-area-refusal-requires
-area-refusal-requires c κs = search needs
-
 returns : tie.Need-returns
 unfolding fill
 returns c =
@@ -31,12 +25,6 @@ returns c =
     let bad = is-refused (area .w) (area .h) (judged .accepts .ensures) (test .if1 .taken) in
     let is = area-refused (area .w) (area .h) _ 1 _ bad (c .area-refusal .result) (c .area-refusal .ensures) in
     (is, kept (c .area-refusal .result) 1 _ _ is)
-
-cast-if2 : tie.Need-cast-if2
-cast-if2 c = search needs
-
-cast-if2-2 : tie.Need-cast-if2-2
-cast-if2-2 c = search needs
 
 mul-if2 : tie.Need-mul-if2
 mul-if2 c =
@@ -58,9 +46,6 @@ returns-2 c =
     let is = length-refused (area .w) (area .h) _ 1 _ ok (c .if2 .taken) in
     (is, kept TableLength 1 _ _ is)
 
-whole-block-requires : tie.Need-whole-block-requires
-whole-block-requires c κs = search needs
-
 fill-block-requires : tie.Need-fill-block-requires
 fill-block-requires c κs =
     let second = c .before .before in
@@ -70,9 +55,6 @@ fill-block-requires c κs =
     let area = start .args .area in
     let ok = is-accepted (area .w) (area .h) (judged .accepts .ensures) (first .if1 .left) in
     block-fits (area .w) (area .h) (start .args .table .now) ok (second .if2 .left) _ (c .whole-block .ensures)
-
-same-length : tie.Need-same-length
-same-length c = search needs
 
 returns-3 : tie.Need-returns-3
 unfolding fill
@@ -103,15 +85,5 @@ returns-3 c =
 pub fill-whole-spec : {M : Type 1} → statement M
 fill-whole-spec =
     tie.close
-    (tie.spec
-    accepts-requires
-    area-refusal-requires
-    returns
-    cast-if2
-    cast-if2-2
-    mul-if2
-    returns-2
-    whole-block-requires
-    fill-block-requires
-    same-length
-    returns-3)
+    (tie.spec (λ c κs. search needs) (λ c κs. search needs) returns (λ c. search needs) (λ c. search needs) mul-if2 returns-2 (λ c κs. search needs)
+    fill-block-requires (λ c. search needs) returns-3)

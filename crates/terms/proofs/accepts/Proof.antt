@@ -5,12 +5,6 @@ use Rattle.terms.specs.Terms.{accepted}
 use Rattle.terms.proofs.accepts.Statement.{statement}
 use Rattle.terms.proofs.accepts.Tie as tie
 
-is-length-requires : tie.Need-is-length-requires
-is-length-requires c κs = search needs
-
-is-length-requires-2 : tie.Need-is-length-requires-2
-is-length-requires-2 c κs = search needs
-
 returns : tie.Need-returns
 unfolding accepted
 returns c = simp (sym (c .before .before .is-length .ensures) ∙ c .before .if1 .taken) (c .is-length2 .ensures)
@@ -20,4 +14,5 @@ unfolding accepted
 returns-2 c = simp (sym (c .before .is-length .ensures) ∙ c .if1 .left)
 
 pub accepts-spec : {M : Type 1} → statement M
-accepts-spec = tie.close (tie.spec is-length-requires is-length-requires-2 returns returns-2)
+accepts-spec = tie.close
+    (tie.spec (λ c κs. search needs) (λ c κs. search needs) returns returns-2)

@@ -8,15 +8,6 @@ use Rattle.clerk.specs.Clerk.{reply-to, clerk-after, after, reply}
 use Rattle.clerk.proofs.Clerk.handle.Statement.{statement}
 use Rattle.clerk.proofs.Clerk.handle.Tie as tie
 
-request-of-requires : tie.Need-request-of-requires
-request-of-requires c κs = search needs
-
-reply-to-requires : tie.Need-reply-to-requires
-reply-to-requires c κs = search needs
-
-clerk-after-requires : tie.Need-clerk-after-requires
-clerk-after-requires c κs = search needs
-
 returns : tie.Need-returns
 unfolding after reply
 returns c =
@@ -27,4 +18,5 @@ returns c =
 
 pub handle-spec : {M : Type 1} → statement M
 handle-spec =
-    tie.close (tie.spec request-of-requires reply-to-requires clerk-after-requires returns)
+    tie.close
+    (tie.spec (λ c κs. search needs) (λ c κs. search needs) (λ c κs. search needs) returns)
