@@ -16,7 +16,7 @@ use Rattle.descents.specs.declared.Held.{Held}
 use Rattle.descents.specs.Descents.{held, Descends}
 use Rattle.searches.specs.declared.Numbered.{Numbered}
 use Rattle.searches.specs.Searches.{numbered, spot-at, Searches}
-use Rattle.curve.specs.Lookups.{number-to-square, square-to-number, finish-square}
+use Rattle.curve.specs.Lookups.{unless-deep, number-to-square, square-to-number, finish-square}
 
 module _ (w h : ℕ) (yes : accepted w h ≡ true) where
   lengths : Limits w h
@@ -28,7 +28,7 @@ module _ (w h : ℕ) (yes : accepted w h ≡ true) where
   few : (p : Square) → blocks-holding (whole w h) p ≤ 54
   few = at-most-54 w h (lengths .w-least) (lengths .w-most) (lengths .h-least) (lengths .h-most)
 
-  -- number to square: what the descent asks, and its answer or refusal 9
+  -- number to square: what the descent asks, and the answer from what it found
   module _ (number : ℕ) (l : number < w * h) where
     pub descends : Descends (whole w h) number 0
     unfolding whole
@@ -41,22 +41,10 @@ module _ (w h : ℕ) (yes : accepted w h ≡ true) where
           count = omega arith;
         }
 
-    module _ (r : Held) (is : r ≡ held (square-of (whole w h) number) (blocks-holding (whole w h) (square-of (whole w h) number))) where
-      blocks-are : r .blocks ≡ blocks-holding (whole w h) (square-of (whole w h) number)
-      blocks-are = ap (λ r. r .blocks) is
-
-      pub square-deep : 64 < r .blocks → refused TooDeep 3 ≡ number-to-square w h number
-      unfolding number-to-square
-      square-deep deep =
-          let n = blocks-are in
-          rw (yes, lt-ltb number (w * h) l, lt-leb (blocks-holding (whole w h) (square-of (whole w h) number)) 64 (omega arith))
-
-      pub square-found : r .blocks ≤ 64 → answered (r .x ∷ r .y ∷ r .blocks ∷ []) ≡ number-to-square w h number
-      unfolding number-to-square
-      square-found shallow =
-          let n = blocks-are in
-          rw (yes, lt-ltb number (w * h) l, le-leb (blocks-holding (whole w h) (square-of (whole w h) number)) 64 (omega arith))
-          (ap (λ r. answered (r .x ∷ r .y ∷ r .blocks ∷ [])) is)
+    pub square-found : (r : Held) → r ≡ held (square-of (whole w h) number) (blocks-holding (whole w h) (square-of (whole w h) number))
+        → unless-deep (r .blocks) (r .x ∷ r .y ∷ r .blocks ∷ []) 3 ≡ number-to-square w h number
+    unfolding number-to-square
+    square-found r is = rw (yes, lt-ltb number (w * h) l) (ap (λ r. unless-deep (r .blocks) (r .x ∷ r .y ∷ r .blocks ∷ []) 3) is)
 
   pub number-outside : (number : ℕ) → w * h ≤ number → refused NumberOutside 3 ≡ number-to-square w h number
   unfolding number-to-square
@@ -73,22 +61,10 @@ module _ (w h : ℕ) (yes : accepted w h ≡ true) where
           count = omega arith;
         }
 
-    module _ (r : Numbered) (is : r ≡ numbered (number-of (whole w h) (square x y)) (blocks-holding (whole w h) (square x y))) where
-      number-blocks : r .blocks ≡ blocks-holding (whole w h) (square x y)
-      number-blocks = ap (λ r. r .blocks) is
-
-      pub number-deep : 64 < r .blocks → refused TooDeep 2 ≡ square-to-number w h x y
-      unfolding square-to-number
-      number-deep deep =
-          let n = number-blocks in
-          rw (yes, lt-ltb x w l, lt-ltb y h m, lt-leb (blocks-holding (whole w h) (square x y)) 64 (omega arith))
-
-      pub number-found : r .blocks ≤ 64 → answered (r .number ∷ r .blocks ∷ []) ≡ square-to-number w h x y
-      unfolding square-to-number
-      number-found shallow =
-          let n = number-blocks in
-          rw (yes, lt-ltb x w l, lt-ltb y h m, le-leb (blocks-holding (whole w h) (square x y)) 64 (omega arith))
-          (ap (λ r. answered (r .number ∷ r .blocks ∷ [])) is)
+    pub number-found : (r : Numbered) → r ≡ numbered (number-of (whole w h) (square x y)) (blocks-holding (whole w h) (square x y))
+        → unless-deep (r .blocks) (r .number ∷ r .blocks ∷ []) 2 ≡ square-to-number w h x y
+    unfolding square-to-number
+    number-found r is = rw (yes, lt-ltb x w l, lt-ltb y h m) (ap (λ r. unless-deep (r .blocks) (r .number ∷ r .blocks ∷ []) 2) is)
 
   pub x-outside : (x y : ℕ) → w ≤ x → refused SquareOutside 2 ≡ square-to-number w h x y
   unfolding square-to-number

@@ -1,8 +1,11 @@
 // Single lookups: from a number to its square, from a square to its number, and the finish square.
+use descents::Held;
+use searches::Numbered;
 use terms::Area;
 use terms::Refusal;
+ghost use mathlib.Core.List.{[], _∷_};
 ghost use mathlib.Core.Path.{_≡_};
-ghost use Rattle.curve.specs.Lookups.{square-figures, number-figures, finish-figures, number-to-square, square-to-number, finish-square};
+ghost use Rattle.curve.specs.Lookups.{unless-deep, square-figures, number-figures, finish-figures, number-to-square, square-to-number, finish-square};
 
 // The most blocks of the division that a lookup opens.
 const MOST_BLOCKS: u32 = 64;
@@ -25,6 +28,32 @@ pub enum FinishAnswer {
     Refused(Refusal),
 }
 
+// What was found, unless too many blocks hold the square.
+fn square_unless_deep(held: Held) -> SquareAnswer
+    ensures { λ r. ⌜ square-figures r ≡ unless-deep (held .blocks) (held .x ∷ held .y ∷ held .blocks ∷ []) 3 ⌝ }
+{
+    if MOST_BLOCKS < held.blocks {
+        return SquareAnswer::Refused(Refusal::TooDeep);
+    }
+    SquareAnswer::Found {
+        x: held.x,
+        y: held.y,
+        blocks: held.blocks,
+    }
+}
+
+fn number_unless_deep(found: Numbered) -> NumberAnswer
+    ensures { λ r. ⌜ number-figures r ≡ unless-deep (found .blocks) (found .number ∷ found .blocks ∷ []) 2 ⌝ }
+{
+    if MOST_BLOCKS < found.blocks {
+        return NumberAnswer::Refused(Refusal::TooDeep);
+    }
+    NumberAnswer::Found {
+        number: found.number,
+        blocks: found.blocks,
+    }
+}
+
 // The square of a number of an area, and how many blocks of the division hold it.
 pub fn number_to_square(area: Area, number: u32) -> SquareAnswer
     ensures { λ r. ⌜ square-figures r ≡ number-to-square (area .w) (area .h) number ⌝ }
@@ -37,15 +66,7 @@ pub fn number_to_square(area: Area, number: u32) -> SquareAnswer
     if w * h <= number {
         return SquareAnswer::Refused(Refusal::NumberOutside);
     }
-    let held = descents::square_at(w, h, number);
-    if MOST_BLOCKS < held.blocks {
-        return SquareAnswer::Refused(Refusal::TooDeep);
-    }
-    SquareAnswer::Found {
-        x: held.x,
-        y: held.y,
-        blocks: held.blocks,
-    }
+    square_unless_deep(descents::square_at(w, h, number))
 }
 
 // The number of a square of an area, and how many blocks of the division hold it.
@@ -63,14 +84,7 @@ pub fn square_to_number(area: Area, x: u32, y: u32) -> NumberAnswer
     if h <= y {
         return NumberAnswer::Refused(Refusal::SquareOutside);
     }
-    let found = searches::number_at(w, h, x, y);
-    if MOST_BLOCKS < found.blocks {
-        return NumberAnswer::Refused(Refusal::TooDeep);
-    }
-    NumberAnswer::Found {
-        number: found.number,
-        blocks: found.blocks,
-    }
+    number_unless_deep(searches::number_at(w, h, x, y))
 }
 
 // The finish square (w - 1, 0), as document 01 fixes it; the curve need not end there.
