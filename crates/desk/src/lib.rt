@@ -82,7 +82,8 @@ struct Replied {
 
 // The reply to the line that is begun is written.
 fn reply_begun(desk: Desk, kept: &[u8], out: &mut [u8], at: usize) -> Replied
-    requires { ⌜ (desk .begun ≤ kept-bytes) × (kept-bytes ≤ length (now kept)) ⌝ }
+    requires counted { ⌜ desk .begun ≤ kept-bytes ⌝ }
+    requires place { ⌜ kept-bytes ≤ length (now kept) ⌝ }
     ensures left { λ r. ⌜ r .clerk ≡ after (desk .clerk) (begun-line desk (now (kept .entry))) ⌝ }
     ensures written { λ r. ⌜ Writes (now (out .entry)) at (if-room (now (out .entry)) at (reply-text desk (now (kept .entry)))) (now (out .exit)) (r .at) ⌝ }
     ensures near { λ r. ⌜ r .at ≤ at + longest ⌝ }
@@ -101,7 +102,9 @@ fn reply_begun(desk: Desk, kept: &[u8], out: &mut [u8], at: usize) -> Replied
 
 // The line that is begun is answered, and the next one is begun.
 fn answer(desk: Desk, kept: &[u8], out: &mut [u8], at: usize) -> Stepped
-    requires { ⌜ (desk .begun ≤ kept-bytes) × (kept-bytes ≤ length (now kept)) × (desk .line ≤ last-answered) ⌝ }
+    requires counted { ⌜ desk .begun ≤ kept-bytes ⌝ }
+    requires place { ⌜ kept-bytes ≤ length (now kept) ⌝ }
+    requires answered { ⌜ desk .line ≤ last-answered ⌝ }
     ensures next { λ r. ⌜ r .desk ≡ behind-newline desk (now (kept .entry)) ⌝ }
     ensures written { λ r. ⌜ Writes (now (out .entry)) at (if-room (now (out .entry)) at (reply-text desk (now (kept .entry)))) (now (out .exit)) (r .at) ⌝ }
     ensures near { λ r. ⌜ r .at ≤ at + longest ⌝ }
@@ -122,7 +125,9 @@ fn answer(desk: Desk, kept: &[u8], out: &mut [u8], at: usize) -> Stepped
 
 // One byte.
 fn step(desk: Desk, kept: &mut [u8], b: u8, out: &mut [u8], at: usize) -> Stepped
-    requires { ⌜ (desk .begun ≤ kept-bytes) × (kept-bytes ≤ length (now kept)) × (at + longest ≤ length (now out)) ⌝ }
+    requires counted { ⌜ desk .begun ≤ kept-bytes ⌝ }
+    requires place { ⌜ kept-bytes ≤ length (now kept) ⌝ }
+    requires room { ⌜ at + longest ≤ length (now out) ⌝ }
     ensures next { λ r. ⌜ r .desk ≡ next-desk desk (now (kept .entry)) b ⌝ }
     ensures stored { λ r. ⌜ now (kept .exit) ≡ next-kept desk (now (kept .entry)) b ⌝ }
     ensures written { λ r. ⌜ Writes (now (out .entry)) at (prints desk (now (kept .entry)) b) (now (out .exit)) (r .at) ⌝ }

@@ -22,7 +22,8 @@ fn write(text: &[u8], line: u32) -> bool {
 
 // A chunk goes to the desk in as many turns as its text needs, and the text of each turn is written. A write that fails closes the desk.
 fn serve(desk: Desk, kept: &mut [u8], chunk: &[u8], out: &mut [u8]) -> Desk
-    requires { ⌜ (in-order desk (now kept) ≡ true) × (longest ≤ length (now out)) ⌝ }
+    requires ordered { ⌜ in-order desk (now kept) ≡ true ⌝ }
+    requires room { ⌜ longest ≤ length (now out) ⌝ }
     ensures { λ r. ⌜ in-order r (now (kept .exit)) ≡ true ⌝ }
 {
     let mut d = desk;
@@ -48,7 +49,8 @@ struct Went {
 }
 
 fn turn(fd: i32, desk: Desk, kept: &mut [u8], chunk: &mut [u8], out: &mut [u8]) -> Went
-    requires { ⌜ (in-order desk (now kept) ≡ true) × (longest ≤ length (now out)) ⌝ }
+    requires ordered { ⌜ in-order desk (now kept) ≡ true ⌝ }
+    requires room { ⌜ longest ≤ length (now out) ⌝ }
     ensures { λ r. ⌜ in-order (r .desk) (now (kept .exit)) ≡ true ⌝ }
 {
     let got = streams::read_some(fd, chunk);

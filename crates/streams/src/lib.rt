@@ -92,7 +92,8 @@ pub fn write_whole(fd: i32, buf: &[u8]) -> bool {
 
 // How many bytes of so many fit into a room.
 fn fitting(bytes: usize, room: usize) -> usize
-    ensures { λ r. ⌜ (r ≤ bytes) × (r ≤ room) ⌝ }
+    ensures some { λ r. ⌜ r ≤ bytes ⌝ }
+    ensures fits { λ r. ⌜ r ≤ room ⌝ }
 {
     if bytes < room { bytes } else { room }
 }

@@ -11,13 +11,13 @@ use Rattle.desk.proofs.answer.Tie as tie
 reply-begun-requires : tie.Need-reply-begun-requires
 reply-begun-requires c κs =
     let start = c .before .before .before in
-    (start .pre .0, start .pre .1)
+    (start .pre .0, start .pre .1 .0)
 
 add-t10 : tie.Need-add-t10
 add-t10 c =
     let replied = c .before .before in
     let start = replied .before .before .before .before .before in
-    record { fits = let few = start .pre .2 in omega arith }
+    record { fits = let few = start .pre .1 .1 in omega arith }
 
 same-length : tie.Need-same-length
 same-length c = search needs

@@ -51,7 +51,7 @@ step-requires c κs =
     let roomy = c .before .before .before in
     let asked = roomy .before in
     let turn = asked .before .before .before in
-    (turn .loop .inv .begun-few, turn .loop .inv .kept-room, has-longest _ _ (asked .has-room .ensures) (roomy .if2 .left))
+    (turn .loop .inv .begun-few, (turn .loop .inv .kept-room, has-longest _ _ (asked .has-room .ensures) (roomy .if2 .left)))
 
 add-i : tie.Need-add-i Inv-loop μ-loop
 add-i c =

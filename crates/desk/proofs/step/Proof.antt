@@ -32,14 +32,14 @@ returns-2 c =
     let start = reading .before .before .before in
     let desk = start .args .desk in
     let is = at-the-stop desk (start .args .kept .now) (start .args .b) (reading .if1 .left) (numbered .if2 .taken) in
-    let written = writes-as (is .2) (all-written (stop (desk .line)) (start .pre .2) (stopped .write-stop .ensures .0)) in
+    let written = writes-as (is .2) (all-written (stop (desk .line)) (start .pre .1 .1) (stopped .write-stop .ensures .0)) in
     (c .closed .ensures ∙ is .0, (is .1, (written, stopped .write-stop .ensures .1)))
 
 answer-requires : tie.Need-answer-requires
 answer-requires c κs =
     let numbered = c .before .before .before in
     let start = numbered .before .before .before .before .before in
-    (start .pre .0, start .pre .1, numbered .if2 .left)
+    (start .pre .0, (start .pre .1 .0, numbered .if2 .left))
 
 same-length-2 : tie.Need-same-length-2
 same-length-2 c = search needs
@@ -57,7 +57,7 @@ returns-3 c =
     let desk = start .args .desk in
     let kept = start .args .kept .now in
     let is = at-a-newline desk kept (start .args .b) (reading .if1 .left) (numbered .if2 .left) (newline .if3 .taken) in
-    let written = writes-as (is .2) (all-written (reply-text desk kept) (start .pre .2) (answered .answer .ensures .1 .0)) in
+    let written = writes-as (is .2) (all-written (reply-text desk kept) (start .pre .1 .1) (answered .answer .ensures .1 .0)) in
     (answered .answer .ensures .0 ∙ is .0, (is .1, (written, answered .answer .ensures .1 .1)))
 
 keep-requires : tie.Need-keep-requires
