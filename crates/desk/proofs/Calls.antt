@@ -13,7 +13,7 @@ use lib.Seq.{drop-drop, slice, slice-empty}
 use Rattle.replies.specs.Text.{longest, Writes, if-room}
 use Rattle.replies.proofs.Writing.{stands-written, writes-as}
 use Rattle.desk.specs.declared.Desk.{Desk}
-use Rattle.desk.specs.Steps.{prints-last, still, fed, in-order, fed-any, prints-last-any, Lent, Handed, due, Feeds}
+use Rattle.desk.specs.Steps.{prints-last, still, fed, in-order, fed-any, prints-last-any, Lent, Returned, feed-due, Feeds}
 use Rattle.desk.specs.Runs.{Printed, ended, closed, piece-fed}
 use Rattle.desk.proofs.Bytes.{all-written}
 
@@ -35,20 +35,20 @@ nothing : {t t′ : List ℕ} {at end : ℕ} → Writes t at [] t′ end → sli
 nothing {t} {t′} {at} w = ap (λ n. slice at n t′) (w .behind ∙ add-zero at) ∙ slice-empty at t′
 
 -- A call of `feed` that meets its promise, and a run from where it left the desk.
-module _ {d : Desk} {lent : Lent} {back : Handed} (f : Feeds d lent back) (within : lent .at ≤ length (lent .out) → back .at ≤ length (lent .out)) where
+module _ {d : Desk} {lent : Lent} {back : Returned} (f : Feeds d lent back) (within : lent .at ≤ length (lent .out) → back .at ≤ length (lent .out)) where
   abbrev piece : List ℕ
   piece = drop (lent .from) (lent .chunk)
 
   abbrev wrote : List ℕ
   wrote = slice (lent .at) (back .at) (back .out)
 
-  left-is : drop (back .from) (lent .chunk) ≡ drop (due d lent .taken) piece
-  left-is = ap (λ n. drop n (lent .chunk)) (f .from-is) ∙ sym (drop-drop (due d lent .taken) (lent .from) (lent .chunk))
+  left-is : drop (back .from) (lent .chunk) ≡ drop (feed-due d lent .taken) piece
+  left-is = ap (λ n. drop n (lent .chunk)) (f .from-is) ∙ sym (drop-drop (feed-due d lent .taken) (lent .from) (lent .chunk))
 
-  wrote-is : wrote ≡ due d lent .printed
+  wrote-is : wrote ≡ feed-due d lent .printed
   wrote-is = by (leb (lent .at) (length (lent .out))) refl
     where
-      by : (t : Bool) → leb (lent .at) (length (lent .out)) ≡ t → wrote ≡ due d lent .printed
+      by : (t : Bool) → leb (lent .at) (length (lent .out)) ≡ t → wrote ≡ feed-due d lent .printed
       by true e = stands-written (f .written-is) (within (leb-true (lent .at) (length (lent .out)) e))
       by false e =
           let none = none-behind d (lent .kept) (lent .at) (length (lent .out)) piece (leb-false (lent .at) (length (lent .out)) e) in
@@ -57,7 +57,7 @@ module _ {d : Desk} {lent : Lent} {back : Handed} (f : Feeds d lent back) (withi
   pub feed-is-a-step : (rest : List ℕ) {printed : List ℕ} → Printed (back .desk) (back .kept) (drop (back .from) (lent .chunk) ++ rest) printed
       → Printed d (lent .kept) (piece ++ rest) (wrote ++ printed)
   feed-is-a-step rest {printed} run =
-      let r = due d lent in
+      let r = feed-due d lent in
       subst (λ (zs : List ℕ). Printed d (lent .kept) (piece ++ rest) (zs ++ printed)) (sym wrote-is)
       (piece-fed d (lent .kept) (lent .at) (length (lent .out)) piece rest printed
       (subst (λ (e : Desk). Printed e (r .kept) (drop (r .taken) piece ++ rest) printed) (f .desk-is)

@@ -14,7 +14,7 @@ use Rattle.replies.proofs.Writing.{writes-both, writes-none, writes-length, wri
 use Rattle.desk.specs.declared.Desk.{Desk}
 use Rattle.desk.specs.Desk.{last-answered}
 use Rattle.desk.specs.Steps.{kept-bytes, stopped, behind-newline, next-desk, next-kept, prints, Result, still, onward}
-use Rattle.desk.specs.Steps.{fed, in-order, fed-any, Lent, Handed, Feeds}
+use Rattle.desk.specs.Steps.{fed, in-order, fed-any, Lent, Returned, Feeds}
 use Rattle.desk.proofs.Bytes.{ordered}
 
 -- n bytes taken and some text printed before a result
@@ -135,7 +135,7 @@ module _ {d₀ : Desk} {kept₀ chunk : List ℕ} {from : ℕ} {out₀ : List �
   abbrev started : Lent
   started = record { kept = kept₀; chunk = chunk; from = from; out = out₀; at = at }
 
-  abbrev stands : Handed
+  abbrev stands : Returned
   stands = record { desk = d; kept = kept; from = i; out = out; at = p }
 
   left : fed d kept p (length out₀) (drop i chunk) ≡ still d kept → Feeds d₀ started stands

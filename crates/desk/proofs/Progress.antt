@@ -9,7 +9,7 @@ use lib.Dec.{leb}
 use lib.ListN.{length, drop}
 use Rattle.replies.specs.Text.{longest}
 use Rattle.desk.specs.declared.Desk.{Desk}
-use Rattle.desk.specs.Steps.{kept-bytes, next-desk, next-kept, prints, Result, still, onward, fed, in-order, fed-any, Lent, Handed, Feeds}
+use Rattle.desk.specs.Steps.{kept-bytes, next-desk, next-kept, prints, Result, still, onward, fed, in-order, fed-any, Lent, Returned, Feeds}
 use Rattle.desk.proofs.Bytes.{ordered, in-order-is}
 use Rattle.desk.proofs.Feeding.{still-ordered, fed-after, fed-byte, kept-length}
 
@@ -39,7 +39,7 @@ fed-in-order d kept ok at size bytes =
     ap (λ (r : Result). in-order (r .desk) (r .kept)) (is-fed d kept ok at size bytes) ∙ fed-ordered d kept at size bytes (both .0) (both .1)
 
 -- a call of `feed` that meets its promise, with a desk that is in order
-module _ {d : Desk} {lent : Lent} {back : Handed} (f : Feeds d lent back) (ok : in-order d (lent .kept) ≡ true) where
+module _ {d : Desk} {lent : Lent} {back : Returned} (f : Feeds d lent back) (ok : in-order d (lent .kept) ≡ true) where
   pub stays-in-order : in-order (back .desk) (back .kept) ≡ true
   stays-in-order =
       ap₂ in-order (f .desk-is) (f .kept-is) ∙ fed-in-order d (lent .kept) ok (lent .at) (length (lent .out)) (drop (lent .from) (lent .chunk))

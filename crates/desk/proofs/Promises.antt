@@ -17,10 +17,10 @@ use Rattle.replies.specs.Text.{text, longest, Writes, if-room}
 use Rattle.replies.proofs.Promises.{writes-one}
 use Rattle.desk.specs.declared.Desk.{Desk}
 use Rattle.desk.specs.Desk.{lines-of, answers, output}
-use Rattle.desk.specs.Steps.{kept-bytes, at-first, stopped, prints-last-any, Lent, Handed, Feeds}
+use Rattle.desk.specs.Steps.{kept-bytes, at-first, stopped, prints-last-any, Lent, Returned, Feeds}
 
 -- Two results of `feed` that meet its promise are one: desk, line kept, place in the piece, output and place in it. Of `finish`, `writes-one` says it.
-pub feed-one : {d : Desk} {lent : Lent} {one other : Handed} → Feeds d lent one → Feeds d lent other → one ≡ other
+pub feed-one : {d : Desk} {lent : Lent} {one other : Returned} → Feeds d lent one → Feeds d lent other → one ≡ other
 feed-one f g =
     let text = writes-one (f .written-is) (g .written-is) in
     λ j. record {

@@ -98,7 +98,7 @@ pub record Lent : Type 0 where
   pub at : ℕ
 
 -- What it leaves: the desk, what is then kept, the next place in the chunk, the output and the place after what was written.
-pub record Handed : Type 0 where
+pub record Returned : Type 0 where
   pub desk : Desk
   pub kept : List ℕ
   pub from : ℕ
@@ -106,11 +106,11 @@ pub record Handed : Type 0 where
   pub at : ℕ
 
 -- What is due of what is lent, and that it was done.
-abbrev pub due : Desk → Lent → Result
-due d lent = fed-any d (lent .kept) (lent .at) (length (lent .out)) (drop (lent .from) (lent .chunk))
+abbrev pub feed-due : Desk → Lent → Result
+feed-due d lent = fed-any d (lent .kept) (lent .at) (length (lent .out)) (drop (lent .from) (lent .chunk))
 
-pub record Feeds (d : Desk) (lent : Lent) (back : Handed) : Type 0 where
-  pub desk-is : back .desk ≡ due d lent .desk
-  pub kept-is : back .kept ≡ due d lent .kept
-  pub from-is : back .from ≡ lent .from + due d lent .taken
-  pub written-is : Writes (lent .out) (lent .at) (due d lent .printed) (back .out) (back .at)
+pub record Feeds (d : Desk) (lent : Lent) (back : Returned) : Type 0 where
+  pub desk-is : back .desk ≡ feed-due d lent .desk
+  pub kept-is : back .kept ≡ feed-due d lent .kept
+  pub from-is : back .from ≡ lent .from + feed-due d lent .taken
+  pub written-is : Writes (lent .out) (lent .at) (feed-due d lent .printed) (back .out) (back .at)
