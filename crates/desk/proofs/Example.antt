@@ -117,13 +117,13 @@ next n line lines rest l other r e =
 pub example : output (bytes input) ≡ bytes printed
 unfolding output answers same-bytes
 example =
-    let told-5 : List ℕ = text 5 (said 5) ++ [] in
-    let told-4 : List ℕ = text 4 (said 4) ++ told-5 in
-    let told-3 : List ℕ = text 3 (said 3) ++ told-4 in
+    let printed-5 : List ℕ = text 5 (said 5) ++ [] in
+    let printed-4 : List ℕ = text 4 (said 4) ++ printed-5 in
+    let printed-3 : List ℕ = text 3 (said 3) ++ printed-4 in
     let fifth = next 5 (bytes "N 12") [] [] refl refl too-high refl in
-    let fourth = next 4 (bytes "N 3E4") (drop 4 the-lines) told-5 refl refl no-number fifth in
-    let third = next 3 (bytes "S 2 1") (drop 3 the-lines) told-4 refl refl asked-square fourth in
-    let second = next 2 (bytes "N 8") (drop 2 the-lines) told-3 refl refl asked-number third in
+    let fourth = next 4 (bytes "N 3E4") (drop 4 the-lines) printed-5 refl refl no-number fifth in
+    let third = next 3 (bytes "S 2 1") (drop 3 the-lines) printed-4 refl refl asked-square fourth in
+    let second = next 2 (bytes "N 8") (drop 2 the-lines) printed-3 refl refl asked-number third in
     ap (answers NoArea 1) cut
     ∙ line-answered NoArea 1 (bytes "AREA 3 4") (drop 1 the-lines) (said 1) three-by-four refl set sets-it
     ∙ ap (λ t. text 1 (said 1) ++ t) second

@@ -108,14 +108,14 @@ room-is at n l = by (leb longest (n - at)) refl
 
 -- what `has_room` says: where there is room for the longest text all is written, and where there is none nothing is
 pub has-longest : (at size : ℕ) {room : Bool} → room ≡ leb (at + longest) size → not room ≡ false → at + longest ≤ size
-has-longest at size {room} told there = leb-true (at + longest) size (sym told ∙ not-false room there)
+has-longest at size {room} asked there = leb-true (at + longest) size (sym asked ∙ not-false room there)
 
-module _ {t : List ℕ} {at : ℕ} {room : Bool} (told : room ≡ leb (at + longest) (length t)) where
+module _ {t : List ℕ} {at : ℕ} {room : Bool} (asked : room ≡ leb (at + longest) (length t)) where
   pub with-room : not room ≡ false → {bytes t′ : List ℕ} {end : ℕ} → Writes t at bytes t′ end → Writes t at (if-room t at bytes) t′ end
-  with-room there w = rw (sym told ∙ not-false room there) w
+  with-room there w = rw (sym asked ∙ not-false room there) w
 
   pub no-room : not room ≡ true → (bytes : List ℕ) → Writes t at (if-room t at bytes) t at
-  no-room none bytes = rw (sym told ∙ not-true room none) (writes-none t at)
+  no-room none bytes = rw (sym asked ∙ not-true room none) (writes-none t at)
 
 -- what was written stands between the two places
 pub stands-written : {t t′ bytes : List ℕ} {at end : ℕ} → Writes t at bytes t′ end → end ≤ length t → slice at end t′ ≡ bytes
