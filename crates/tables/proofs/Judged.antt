@@ -14,8 +14,8 @@ use Rattle.terms.proofs.Laws.{limits, squares-limit}
 use Rattle.division.specs.Division.{Block, whole}
 use Rattle.tables.specs.Tables.{judged, due-by, check}
 use Rattle.leaves.specs.declared.Wrong.{Wrong}
-use Rattle.leaves.specs.Walk.{wrong-at, wrong-in, checked}
-use Rattle.leaves.proofs.Entries.{either-below}
+use Rattle.leaves.specs.Walk.{wrong-at, wrong-in, checked, Fits}
+use Rattle.leaves.proofs.Entries.{either-below, squares-fit}
 use Rattle.leaves.proofs.Checks.{taken-out, over-below, over-some}
 use Rattle.tables.proofs.Whole.{taken}
 use Rattle.tables.proofs.PlaceByPlace.{ps, ps-length, values-below, due-there, looked-for, looked-below, looked-at, due-length}
@@ -113,23 +113,21 @@ module _ (w h : ℕ) (a : 1 ≤ w) (b : 1 ≤ h) (limit : w * h < 4294967296) (k
   whole-checked : judged 0 due t ≡ verdict (w * h) least
   whole-checked = first-wrong due t (w * h) (due-length w h a b kind) size small least below some
 
--- a check's answer, from the least wrong place of a walk over the whole area
-module _ (w h : ℕ) (ok : accepted w h ≡ true) (kind : Bool) (t : List ℕ) (size : length t ≡ w * h) (k : Block) (is : k ≡ whole w h) (none : ℕ)
+-- the verdict on a table that fits, from the least wrong place of a walk over the whole area
+module _ (w h : ℕ) (kind : Bool) (t : List ℕ) (fits : Fits w h t (whole w h) 0) (k : Block) (is : k ≡ whole w h) (none : ℕ)
     (none-is : none ≡ wrong-at (w * h) 0) (least : ℕ) (least-is : least ≡ checked kind w t k 0 none) where
-  verdict-is : answered (verdict (w * h) least) ≡ check w h (due-by kind w h) t
-  unfolding check
+  verdict-is : verdict (w * h) least ≡ judged 0 (due-by kind w h) t
+  unfolding whole
   verdict-is =
-      let all = limits w h ok in
+      let sides = fits .inside .sized in
       sym
-      (taken w h t 3 (answered (judged 0 (due-by kind w h) t)) ok size
-      ∙ ap answered (whole-checked w h (all .w-least) (all .h-least) (squares-limit w h ok) kind t size
-      ∙ ap (verdict (w * h)) (sym (least-is ∙ ap₂ (λ j none. checked kind w t j 0 none) is none-is))))
+      (whole-checked w h (sides .run) (sides .side) (squares-fit fits) kind t (fits .size)
+      ∙ ap (verdict (w * h)) (sym (least-is ∙ ap₂ (λ j none. checked kind w t j 0 none) is none-is)))
 
-  pub right-is : least ≡ none → answered (0 ∷ 0 ∷ 0 ∷ []) ≡ check w h (due-by kind w h) t
-  right-is e = ap answered (sym (rw (eq-eqb least (wrong-at (w * h) 0) (e ∙ none-is)))) ∙ verdict-is
+  pub right-is : least ≡ none → answered (0 ∷ 0 ∷ 0 ∷ []) ≡ answered (judged 0 (due-by kind w h) t)
+  right-is e = ap answered (sym (rw (eq-eqb least (wrong-at (w * h) 0) (e ∙ none-is))) ∙ verdict-is)
 
-  pub wrong-is : (least ≡ none → ⊥) → (r : Wrong) → r ≡ wrong-in least → answered (1 ∷ r .place ∷ r .due ∷ []) ≡ check w h (due-by kind w h) t
+  pub wrong-is : (least ≡ none → ⊥) → (r : Wrong) → r ≡ wrong-in least → answered (1 ∷ r .place ∷ r .due ∷ []) ≡ answered (judged 0 (due-by kind w h) t)
   wrong-is e r read =
       ap (λ r. answered (wrong-told r)) read
-      ∙ ap answered (sym (rw (ne-eqb least (wrong-at (w * h) 0) (λ z. e (z ∙ sym none-is)))))
-      ∙ verdict-is
+      ∙ ap answered (sym (rw (ne-eqb least (wrong-at (w * h) 0) (λ z. e (z ∙ sym none-is)))) ∙ verdict-is)

@@ -126,7 +126,7 @@ asked-by w h t n answer true true p q e = (p, eqb-true (length t) (w * h) q)
 asked-by w h t n answer true false p q e =
     absurd (omega (arith, ap (λ f. f .refusal) (length-refused w h t n answer p (eqb-false (length t) (w * h) q))))
 asked-by w h t n answer false b p q e =
-    absurd (refusal-some (area-refusal w h) (ap (λ f. f .refusal) (area-refused w h t n answer p (area-refusal w h) refl) ∙ e))
+    absurd (refusal-some (area-refusal w h) (ap (λ f. f .refusal) (area-refused w h t n answer p) ∙ e))
 
 module _ (w h : ℕ) (t : List ℕ) where
   -- "A table's length must be exactly w·h": of an accepted area any other is refusal 4, in fills and checks.

@@ -1,11 +1,11 @@
 -- A call on the table of a whole area: its refusals, and that refusal 9 never arises.
 use mathlib.Core.Bool.{Bool, true, false}
 use mathlib.Core.List.{List, [], _∷_}
-use mathlib.Core.Path.{_≡_, refl, ap, subst⁻¹, _∙_}
+use mathlib.Core.Path.{_≡_, refl, sym, ap, subst⁻¹, _∙_}
 use Prim.Native.Nat.{ℕ, _+_, _*_}
 use native.Mathlib.Omega.{arith}
-use borrow.Author.Tests.{eq-eqb, ne-eqb, le-ltb}
-use lib.Dec.{ltb}
+use borrow.Author.Tests.{eq-eqb, ne-eqb, eqb-true, le-ltb}
+use lib.Dec.{ltb, eqb}
 use lib.ListN.{length}
 use Rattle.terms.specs.declared.Refusal.{Refusal}
 use Rattle.terms.specs.declared.Refusal.the-variants.{TableLength}
@@ -13,8 +13,10 @@ use Rattle.terms.specs.Terms.{accepted, area-refusal, Figures, answered, refuse
 use Rattle.terms.proofs.Laws.{limits, refusal-some}
 use Rattle.division.specs.Division.{Block, whole, curve, blocks-holding, count}
 use Rattle.division.proofs.Blocks.{whole-inside, at-most-54}
-use Rattle.tables.specs.Tables.{some-deep, on-table, unless-refused}
-use Rattle.leaves.specs.Walk.{Fits}
+use Rattle.leaves.specs.Walk as Walks
+use Rattle.tables.specs.declared.Judgement.{Judgement}
+use Rattle.tables.specs.declared.Judgement.the-variants.{Fits, Refused}
+use Rattle.tables.specs.Tables.{some-deep, table-judged, as-judged, on-table, unless-refused}
 
 none-counted : {X : Type 0} (f : X → Bool) (zs : List X) → ((z : X) → f z ≡ false) → count f zs ≡ 0
 unfolding count
@@ -32,18 +34,36 @@ not-deep w h ok =
     (let few = at-most-54 w h (all .w-least) (all .w-most) (all .h-least) (all .h-most) s in omega arith)) in
     rw none
 
+-- what a table that is judged so is answered
 module _ (w h : ℕ) (t : List ℕ) (n : ℕ) (answer : Figures) where
-  pub area-refused : accepted w h ≡ false → (r : Refusal) → r ≡ area-refusal w h → refused r n ≡ on-table w h t n answer
+  pub judged-refused : (r : Refusal) → Refused r ≡ table-judged w h (length t) → refused r n ≡ on-table w h t n answer
   unfolding on-table
-  area-refused bad r is = rw bad (ap (λ r. refused r n) is)
+  judged-refused r e = ap (λ j. as-judged j w h n answer) e
+
+  pub area-refused : accepted w h ≡ false → refused (area-refusal w h) n ≡ on-table w h t n answer
+  area-refused bad = judged-refused (area-refusal w h) (sym (rw bad refl))
 
   pub length-refused : accepted w h ≡ true → (length t ≡ w * h → ⊥) → refused TableLength n ≡ on-table w h t n answer
-  unfolding on-table
-  length-refused ok other = rw (ok, ne-eqb (length t) (w * h) other)
+  length-refused ok other = judged-refused TableLength (sym (rw (ok, ne-eqb (length t) (w * h) other) refl))
 
   pub taken : accepted w h ≡ true → length t ≡ w * h → on-table w h t n answer ≡ answer
   unfolding on-table
   taken ok size = rw (ok, eq-eqb (length t) (w * h) size, not-deep w h ok)
+
+-- a table that fits: its area is accepted, and it has w·h places
+refusing : Judgement → ℕ
+refusing Fits = 0
+refusing (Refused r) = 1
+
+fits-by : (w h places : ℕ) (a b : Bool) → accepted w h ≡ a → eqb places (w * h) ≡ b → Fits ≡ table-judged w h places
+    → (accepted w h ≡ true) × (places ≡ w * h)
+unfolding refusing
+fits-by w h places true true p q e = (p, eqb-true places (w * h) q)
+fits-by w h places true false p q e = let other : refusing (table-judged w h places) ≡ 1 = rw (p, q) refl in absurd (omega (arith, ap refusing e))
+fits-by w h places false b p q e = let other : refusing (table-judged w h places) ≡ 1 = rw p refl in absurd (omega (arith, ap refusing e))
+
+pub judged-fits : (w h places : ℕ) → Fits ≡ table-judged w h places → (accepted w h ≡ true) × (places ≡ w * h)
+judged-fits w h places = fits-by w h places (accepted w h) (eqb places (w * h)) refl refl
 
 -- a refused table is kept, and one that is answered is filled
 pub kept : (r : Refusal) (n : ℕ) {f : Figures} (filled t : List ℕ) → refused r n ≡ f → t ≡ unless-refused f filled t
@@ -54,12 +74,12 @@ pub given : (values : List ℕ) {f : Figures} (filled t : List ℕ) → f ≡ an
 unfolding unless-refused
 given values filled t e = rw (eq-eqb _ 0 (ap (λ g. g .refusal) e))
 
--- the whole area is a block that a walk can take
-whole-fits : (w h : ℕ) (t : List ℕ) → accepted w h ≡ true → length t ≡ w * h → Fits w h t (whole w h) 0
+-- the whole area is then a block that a walk can take
+pub whole-fits : (w h : ℕ) (t : List ℕ) → accepted w h ≡ true → length t ≡ w * h → Walks.Fits w h t (whole w h) 0
 unfolding whole
 whole-fits w h t ok size =
     let all = limits w h ok in
     record { w-limit = all .w-most; h-limit = all .h-most; inside = whole-inside w h (all .w-least) (all .h-least); size = size; room = omega arith }
 
-pub block-fits : (w h : ℕ) (t : List ℕ) → accepted w h ≡ true → length t ≡ w * h → (k : Block) → k ≡ whole w h → Fits w h t k 0
-block-fits w h t ok size k is = subst⁻¹ (λ (k : Block). Fits w h t k 0) is (whole-fits w h t ok size)
+pub block-fits : (w h : ℕ) (t : List ℕ) → Walks.Fits w h t (whole w h) 0 → (k : Block) → k ≡ whole w h → Walks.Fits w h t k 0
+block-fits w h t fits k is = subst⁻¹ (λ (k : Block). Walks.Fits w h t k 0) is fits

@@ -5,8 +5,10 @@ use Prim.Native.Nat.{ℕ, zero, suc, _+_, _*_, _/_, _%_}
 use lib.Dec.{ltb, eqb}
 use lib.ListN.{length}
 use Rattle.terms.specs.declared.Refusal.the-variants.{TableLength, TooDeep}
-use Rattle.terms.specs.Terms.{Figures, answered, refused, on-area}
+use Rattle.terms.specs.Terms.{accepted, area-refusal, Figures, answered, refused}
 use Rattle.division.specs.Division.{square, whole, curve, blocks, square-of, number-of, blocks-holding, count}
+use Rattle.tables.specs.declared.Judgement.{Judgement}
+use Rattle.tables.specs.declared.Judgement.the-variants.{Fits, Refused}
 use Rattle.tables.specs.declared.FillAnswer as FillAnswers
 use Rattle.tables.specs.declared.CheckAnswer as CheckAnswers
 
@@ -27,11 +29,18 @@ by-square w h = places (λ p. number-of (whole w h) (square (p % w) (p / w))) (w
 unfoldable pub some-deep : (w h : ℕ) → Bool
 some-deep w h = ltb 0 (count (λ s. ltb 64 (blocks-holding (whole w h) s)) (curve (whole w h)))
 
--- "A table's length must be exactly w·h." "For library calls the order is 1, then whichever of 2, 3, 4 belongs to the call, then 9." What a call on
--- a table answers, where n values would be answered, and what is left of a table that it fills: "the table is unaltered".
+-- "A table's length must be exactly w·h." The area comes first.
+abbrev pub table-judged : (w h places : ℕ) → Judgement
+table-judged w h places = cond (accepted w h) (cond (eqb places (w * h)) Fits (Refused TableLength)) (Refused (area-refusal w h))
+
+-- "For library calls the order is 1, then whichever of 2, 3, 4 belongs to the call, then 9." What a call on a table answers, where n values would be
+-- answered, and what is left of a table that it fills: "the table is unaltered".
+abbrev pub as-judged : Judgement → (w h n : ℕ) → Figures → Figures
+as-judged Fits w h n answer = cond (some-deep w h) (refused TooDeep n) answer
+as-judged (Refused r) w h n answer = refused r n
+
 unfoldable pub on-table : (w h : ℕ) → List ℕ → (n : ℕ) → Figures → Figures
-on-table w h table n answer =
-    on-area w h n (cond (eqb (length table) (w * h)) (cond (some-deep w h) (refused TooDeep n) answer) (refused TableLength n))
+on-table w h table n answer = as-judged (table-judged w h (length table)) w h n answer
 
 unfoldable pub unless-refused : Figures → (filled table : List ℕ) → List ℕ
 unless-refused answer filled table = cond (eqb (answer .refusal) 0) filled table

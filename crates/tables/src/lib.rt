@@ -5,7 +5,9 @@ use terms::Refusal;
 ghost use mathlib.Core.Path.{_≡_};
 ghost use Rattle.division.specs.Division.{whole};
 ghost use Rattle.division.specs.Forms.{block};
-ghost use Rattle.tables.specs.Tables.{by-number, by-square, unless-refused, due-by, fill, fill-figures, check, check-figures};
+ghost use Rattle.terms.specs.Terms.{answered};
+ghost use Rattle.leaves.specs.Walk.{Fits};
+ghost use Rattle.tables.specs.Tables.{table-judged, judged, by-number, by-square, unless-refused, due-by, fill, fill-figures, check, check-figures};
 
 // What a fill answers.
 pub enum FillAnswer {
@@ -34,21 +36,39 @@ fn whole_block(area: Area) -> Placed
     }
 }
 
+// Whether a call may go on with a table.
+enum Judgement {
+    Fits,
+    Refused(Refusal),
+}
+
+// The area, and the length of its table, before any place of that is looked at.
+fn judge_table(area: Area, places: usize) -> Judgement
+    ensures { λ r. ⌜ r ≡ table-judged (area .w) (area .h) places ⌝ }
+{
+    let w = area.w;
+    let h = area.h;
+    if !terms::accepts(area) {
+        return Judgement::Refused(terms::area_refusal(area));
+    }
+    if places != w as usize * h as usize {
+        return Judgement::Refused(Refusal::TableLength);
+    }
+    Judgement::Fits
+}
+
 // Fills a table of either kind for a whole area.
 fn fill_whole(area: Area, table: &mut [u32], by_square: bool) -> FillAnswer
     ensures { λ r. ⌜ (fill-figures r ≡ fill (area .w) (area .h) (now (table .entry)))
         × (now (table .exit) ≡ unless-refused (fill (area .w) (area .h) (now (table .entry))) (due-by «by_square» (area .w) (area .h)) (now (table .entry))) ⌝ }
 {
-    let w = area.w;
-    let h = area.h;
-    if !terms::accepts(area) {
-        return FillAnswer::Refused(terms::area_refusal(area));
+    match judge_table(area, table.len()) {
+        Judgement::Refused(r) => FillAnswer::Refused(r),
+        Judgement::Fits => {
+            let blocks = fills::fill_block(table, whole_block(area), area, 0, by_square);
+            FillAnswer::Filled { blocks: blocks }
+        }
     }
-    if table.len() != w as usize * h as usize {
-        return FillAnswer::Refused(Refusal::TableLength);
-    }
-    let blocks = fills::fill_block(table, whole_block(area), area, 0, by_square);
-    FillAnswer::Filled { blocks: blocks }
 }
 
 // Place i gets y·w + x of square number i.
@@ -67,19 +87,12 @@ pub fn fill_by_square(area: Area, table: &mut [u32]) -> FillAnswer
     fill_whole(area, table, true)
 }
 
-// Checks a table of either kind for a whole area. A wrong place w·h, which there is not, means none.
-fn check_whole(area: Area, table: &[u32], by_square: bool) -> CheckAnswer
-    ensures { λ r. ⌜ check-figures r ≡ check (area .w) (area .h) (due-by «by_square» (area .w) (area .h)) (now (table .entry)) ⌝ }
+// The verdict on a table that fits its area. A wrong place w·h, which there is not, means none.
+fn check_fitting(area: Area, table: &[u32], by_square: bool) -> CheckAnswer
+    requires { ⌜ Fits (area .w) (area .h) (now table) (whole (area .w) (area .h)) 0 ⌝ }
+    ensures { λ r. ⌜ check-figures r ≡ answered (judged 0 (due-by «by_square» (area .w) (area .h)) (now (table .entry))) ⌝ }
 {
-    let w = area.w;
-    let h = area.h;
-    if !terms::accepts(area) {
-        return CheckAnswer::Refused(terms::area_refusal(area));
-    }
-    if table.len() != w as usize * h as usize {
-        return CheckAnswer::Refused(Refusal::TableLength);
-    }
-    let none = leaves::wrong_word(w * h, 0);
+    let none = leaves::wrong_word(area.w * area.h, 0);
     let least = checks::check_block(table, whole_block(area), area, 0, by_square, none);
     if least == none {
         return CheckAnswer::Right;
@@ -88,6 +101,16 @@ fn check_whole(area: Area, table: &[u32], by_square: bool) -> CheckAnswer
     CheckAnswer::Wrong {
         place: wrong.place,
         due: wrong.due,
+    }
+}
+
+// Checks a table of either kind for a whole area.
+fn check_whole(area: Area, table: &[u32], by_square: bool) -> CheckAnswer
+    ensures { λ r. ⌜ check-figures r ≡ check (area .w) (area .h) (due-by «by_square» (area .w) (area .h)) (now (table .entry)) ⌝ }
+{
+    match judge_table(area, table.len()) {
+        Judgement::Refused(r) => CheckAnswer::Refused(r),
+        Judgement::Fits => check_fitting(area, table, by_square),
     }
 }
 

@@ -1,0 +1,43 @@
+-- `tables::check_fitting` meets its contract: what the least wrong place of the walk over the whole area says.
+use borrow.Author.Needs.{needs}
+use Rattle.leaves.proofs.Entries.{squares-fit}
+use Rattle.tables.proofs.Whole.{block-fits}
+use Rattle.tables.proofs.Judged.{right-is, wrong-is}
+use Rattle.tables.proofs.check_fitting.Statement.{statement}
+use Rattle.tables.proofs.check_fitting.Tie as tie
+
+mul-wrong-word : tie.Need-mul-wrong-word
+mul-wrong-word c = record { fits = squares-fit (c .before .before .pre) }
+
+check-block-requires : tie.Need-check-block-requires
+check-block-requires c κs =
+    let start = c .before .before .before .before in
+    block-fits (start .args .area .w) (start .args .area .h) (start .args .table .now) (start .pre) _ (c .whole-block .ensures)
+
+returns : tie.Need-returns
+returns c =
+    let checked = c .before in
+    let block = checked .before in
+    let start = block .before .before .before .before in
+    let asked = start .args in
+    let word = block .before .wrong-word in
+    let least = checked .check-block in
+    right-is (asked .area .w) (asked .area .h) (asked .by-square) (asked .table .now) (start .pre) _ (block .whole-block .ensures) (word .result)
+    (word .ensures) (least .result) (least .ensures) (c .if1 .taken)
+
+returns-2 : tie.Need-returns-2
+returns-2 c =
+    let checked = c .before .before in
+    let block = checked .before in
+    let start = block .before .before .before .before in
+    let asked = start .args in
+    let word = block .before .wrong-word in
+    let least = checked .check-block in
+    wrong-is (asked .area .w) (asked .area .h) (asked .by-square) (asked .table .now) (start .pre) _ (block .whole-block .ensures) (word .result)
+    (word .ensures) (least .result) (least .ensures) (c .before .if1 .left) (c .wrong-in .result)
+    (c .wrong-in .ensures)
+
+pub check-fitting-spec : {M : Type 1} → statement M
+check-fitting-spec =
+    tie.close
+    (tie.spec mul-wrong-word (λ c κs. search needs) (λ c κs. search needs) check-block-requires returns (λ c κs. search needs) returns-2)
