@@ -19,9 +19,6 @@ add-t10 c =
     let start = replied .before .before .before .before .before in
     record { fits = let few = start .pre .1 .1 in omega arith }
 
-same-length : tie.Need-same-length
-same-length c = search needs
-
 returns : tie.Need-returns
 returns c =
     let replied = c .before .before .before in
@@ -31,4 +28,5 @@ returns c =
     )
 
 pub answer-spec : {M : Type 1} → statement M
-answer-spec = tie.close (tie.spec reply-begun-requires add-t10 same-length returns)
+answer-spec = tie.close
+    (tie.spec reply-begun-requires add-t10 (λ c. search needs) returns)

@@ -8,9 +8,6 @@ use Rattle.desk.proofs.Bytes.{writes-nothing, ordered}
 use Rattle.desk.proofs.finish.Statement.{statement}
 use Rattle.desk.proofs.finish.Tie as tie
 
-is-in-order-requires : tie.Need-is-in-order-requires
-is-in-order-requires c κs = search needs
-
 returns : tie.Need-returns
 returns c =
     let wrong = sym (c .before .is-in-order .ensures) ∙ not-true _ (c .if1 .taken) in
@@ -35,9 +32,6 @@ reply-begun-requires c κs =
     let start = asked .before .before .before in
     ordered (start .args .desk) (start .args .kept .now) (sym (asked .is-in-order .ensures) ∙ not-false _ (right .if1 .left))
 
-same-length : tie.Need-same-length
-same-length c = search needs
-
 returns-4 : tie.Need-returns-4
 returns-4 c =
     let replied = c .before .before in
@@ -48,12 +42,6 @@ returns-4 c =
     let right = sym (ordered .before .is-in-order .ensures) ∙ not-false _ (ordered .if1 .left) in
     let written = replied .reply-begun .ensures .1 .0 in
     (rw (right, reading .if2 .left, ne-eqb _ 0 (begun .if3 .left), le-ltb last-answered _ (numbered .if4 .taken)) written, replied .reply-begun .ensures .1 .1)
-
-write-stop-requires : tie.Need-write-stop-requires
-write-stop-requires c κs = search needs
-
-same-length-2 : tie.Need-same-length-2
-same-length-2 c = search needs
 
 returns-5 : tie.Need-returns-5
 returns-5 c =
@@ -69,14 +57,5 @@ returns-5 c =
 pub finish-spec : {M : Type 1} → statement M
 finish-spec =
     tie.close
-    (tie.spec
-    is-in-order-requires
-    returns
-    returns-2
-    returns-3
-    reply-begun-requires
-    same-length
-    returns-4
-    write-stop-requires
-    same-length-2
-    returns-5)
+    (tie.spec (λ c κs. search needs) returns returns-2 returns-3 reply-begun-requires (λ c. search needs) returns-4 (λ c κs. search needs)
+    (λ c. search needs) returns-5)

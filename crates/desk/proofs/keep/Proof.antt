@@ -17,13 +17,11 @@ slice-write-kept c = search needs
 add-t8 : tie.Need-add-t8
 add-t8 c = search needs
 
-same-length : tie.Need-same-length
-same-length c = search needs
-
 returns-2 : tie.Need-returns-2
 returns-2 c =
     let more = lt-leb kept-bytes (c .before .args .desk .begun) (c .if1 .left) in
     (sym (rw more), sym (rw more))
 
 pub keep-spec : {M : Type 1} → statement M
-keep-spec = tie.close (tie.spec returns slice-write-kept add-t8 same-length returns-2)
+keep-spec = tie.close
+    (tie.spec returns slice-write-kept add-t8 (λ c. search needs) returns-2)

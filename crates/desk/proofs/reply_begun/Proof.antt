@@ -13,15 +13,6 @@ slice-aggregate-handle c =
     let start = c .before .before .before in
     sym (length-take-le (start .args .desk .begun) (start .args .kept .now) (let least = start .pre .0 in let most = start .pre .1 in omega arith))
 
-handle-requires : tie.Need-handle-requires
-handle-requires c κs = search needs
-
-write-reply-requires : tie.Need-write-reply-requires
-write-reply-requires c κs = search needs
-
-same-length : tie.Need-same-length
-same-length c = search needs
-
 returns : tie.Need-returns
 returns c =
     let wrote = c .before .before in
@@ -38,4 +29,4 @@ returns c =
 pub reply-begun-spec : {M : Type 1} → statement M
 reply-begun-spec =
     tie.close
-    (tie.spec slice-aggregate-handle handle-requires write-reply-requires same-length returns)
+    (tie.spec slice-aggregate-handle (λ c κs. search needs) (λ c κs. search needs) (λ c. search needs) returns)

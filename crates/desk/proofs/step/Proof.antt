@@ -15,15 +15,6 @@ returns c =
     let is = when-closed (start .args .desk) (start .args .kept .now) (start .args .b) (c .if1 .taken) in
     (is .0, (is .1, (writes-as (is .2) (writes-none (start .args .out .now) (start .args .at)), omega arith)))
 
-write-stop-requires : tie.Need-write-stop-requires
-write-stop-requires c κs = search needs
-
-closed-requires : tie.Need-closed-requires
-closed-requires c κs = search needs
-
-same-length : tie.Need-same-length
-same-length c = search needs
-
 returns-2 : tie.Need-returns-2
 returns-2 c =
     let stopped = c .before .before .before in
@@ -41,12 +32,6 @@ answer-requires c κs =
     let start = numbered .before .before .before .before .before in
     (start .pre .0, (start .pre .1 .0, numbered .if2 .left))
 
-same-length-2 : tie.Need-same-length-2
-same-length-2 c = search needs
-
-same-length-3 : tie.Need-same-length-3
-same-length-3 c = search needs
-
 returns-3 : tie.Need-returns-3
 returns-3 c =
     let answered = c .before .before in
@@ -63,9 +48,6 @@ returns-3 c =
 keep-requires : tie.Need-keep-requires
 keep-requires c κs = search needs
 
-same-length-4 : tie.Need-same-length-4
-same-length-4 c = search needs
-
 returns-4 : tie.Need-returns-4
 returns-4 c =
     let kept = c .before .before in
@@ -80,16 +62,5 @@ returns-4 c =
 pub step-spec : {M : Type 1} → statement M
 step-spec =
     tie.close
-    (tie.spec
-    returns
-    write-stop-requires
-    closed-requires
-    same-length
-    returns-2
-    answer-requires
-    same-length-2
-    same-length-3
-    returns-3
-    keep-requires
-    same-length-4
-    returns-4)
+    (tie.spec returns (λ c κs. search needs) (λ c κs. search needs) (λ c. search needs) returns-2 answer-requires (λ c. search needs)
+    (λ c. search needs) returns-3 keep-requires (λ c. search needs) returns-4)

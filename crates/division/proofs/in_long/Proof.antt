@@ -6,21 +6,12 @@ use Rattle.division.proofs.Walks.{long-spot, skip-within}
 use Rattle.division.proofs.in_long.Statement.{statement}
 use Rattle.division.proofs.in_long.Tie as tie
 
-even-half-requires : tie.Need-even-half-requires
-even-half-requires c κs = search needs
-
 sub-either : tie.Need-sub-either
 sub-either c =
     let halved = c .before .before in
     let start = halved .before in
     let half = halves (start .args .s .a) (start .pre .0) in
     omega (arith, halved .even-half .ensures)
-
-either-requires : tie.Need-either-requires
-either-requires c κs = search needs
-
-either-requires-2 : tie.Need-either-requires-2
-either-requires-2 c κs = search needs
 
 sub-t7 : tie.Need-sub-t7
 sub-t7 c =
@@ -37,4 +28,5 @@ returns c =
     long-spot (halved .before .args .s) (e .result) (run .result) (skip .result) (e .ensures) (run .ensures) (skip .ensures)
 
 pub in-long-spec : {M : Type 1} → statement M
-in-long-spec = tie.close (tie.spec even-half-requires sub-either either-requires either-requires-2 sub-t7 returns)
+in-long-spec = tie.close
+    (tie.spec (λ c κs. search needs) sub-either (λ c κs. search needs) (λ c κs. search needs) sub-t7 returns)

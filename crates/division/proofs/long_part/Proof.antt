@@ -17,12 +17,6 @@ skip-less : (a e skip : ℕ) (second : Bool) → 2 ≤ a → e ≡ even-half a �
 skip-less a e skip true l p q = let half = halves a l in omega arith
 skip-less a e skip false l p q = omega arith
 
-even-half-requires : tie.Need-even-half-requires
-even-half-requires c κs = search needs
-
-either-requires : tie.Need-either-requires
-either-requires c κs = search needs
-
 stepped-requires : tie.Need-stepped-requires
 stepped-requires c κs =
     let start = c .before .before in
@@ -41,9 +35,6 @@ sub-either c =
     let half = halves (k .a) (long-lengths (block k) (start .pre .0 .sized) (start .pre .1) .0) in
     omega (arith, halved .even-half .ensures)
 
-either-requires-2 : tie.Need-either-requires-2
-either-requires-2 c κs = search needs
-
 returns : tie.Need-returns
 returns c =
     let stepped-on = c .before .before in
@@ -57,4 +48,5 @@ returns c =
     (e .ensures) (skip .ensures) (there .ensures) (run .ensures)
 
 pub long-part-spec : {M : Type 1} → statement M
-long-part-spec = tie.close (tie.spec even-half-requires either-requires stepped-requires sub-either either-requires-2 returns)
+long-part-spec = tie.close
+    (tie.spec (λ c κs. search needs) (λ c κs. search needs) stepped-requires sub-either (λ c κs. search needs) returns)

@@ -4,11 +4,9 @@ use Rattle.division.proofs.Walks.{a-block}
 use Rattle.division.proofs.part_a.Statement.{statement}
 use Rattle.division.proofs.part_a.Tie as tie
 
-even-half-requires : tie.Need-even-half-requires
-even-half-requires c κs = search needs
-
 returns : tie.Need-returns
 returns c = a-block (c .before .before .before .args .k) (c .before .even-half .result) (c .before .even-half .ensures)
 
 pub part-a-spec : {M : Type 1} → statement M
-part-a-spec = tie.close (tie.spec even-half-requires returns)
+part-a-spec = tie.close
+    (tie.spec (λ c κs. search needs) returns)

@@ -8,9 +8,6 @@ use Rattle.division.proofs.Walks.{steps-across, b-block}
 use Rattle.division.proofs.part_b.Statement.{statement}
 use Rattle.division.proofs.part_b.Tie as tie
 
-even-half-requires : tie.Need-even-half-requires
-even-half-requires c κs = search needs
-
 stepped-requires : tie.Need-stepped-requires
 stepped-requires c κs =
     let k = c .before .args .k in
@@ -33,4 +30,5 @@ returns c =
     b-block (halved .before .args .k) (e .result) (there .result) (e .ensures) (there .ensures)
 
 pub part-b-spec : {M : Type 1} → statement M
-part-b-spec = tie.close (tie.spec even-half-requires stepped-requires sub-t4 returns)
+part-b-spec = tie.close
+    (tie.spec (λ c κs. search needs) stepped-requires sub-t4 returns)

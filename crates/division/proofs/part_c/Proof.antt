@@ -9,9 +9,6 @@ use Rattle.division.proofs.Walks.{steps-along, steps-across, c-block}
 use Rattle.division.proofs.part_c.Statement.{statement}
 use Rattle.division.proofs.part_c.Tie as tie
 
-even-half-requires : tie.Need-even-half-requires
-even-half-requires c κs = search needs
-
 sub-stepped : tie.Need-sub-stepped
 sub-stepped c =
     let k = c .before .args .k in
@@ -49,4 +46,5 @@ returns c =
     c-block (halved .before .args .k) (e .result) (up .result) (last .result) (e .ensures) (up .ensures) (last .ensures)
 
 pub part-c-spec : {M : Type 1} → statement M
-part-c-spec = tie.close (tie.spec even-half-requires sub-stepped stepped-requires sub-stepped-2 stepped-requires-2 sub-t10 returns)
+part-c-spec = tie.close
+    (tie.spec (λ c κs. search needs) sub-stepped stepped-requires sub-stepped-2 stepped-requires-2 sub-t10 returns)

@@ -5,12 +5,6 @@ use Rattle.exports.specs.Handling.{area-of}
 use Rattle.exports.proofs.area_in_force.Statement.{statement}
 use Rattle.exports.proofs.area_in_force.Tie as tie
 
-enum-told : tie.Need-enum-told
-enum-told c = search needs
-
-enum-known-clerk : tie.Need-enum-known-clerk
-enum-known-clerk c = search needs
-
 returns : tie.Need-returns
 returns c = ap area-of (sym (c .enum-told .given .1))
 
@@ -18,4 +12,5 @@ returns-2 : tie.Need-returns-2
 returns-2 c = search needs
 
 pub area-in-force-spec : {M : Type 1} → statement M
-area-in-force-spec = tie.close (tie.spec enum-told enum-known-clerk returns returns-2)
+area-in-force-spec = tie.close
+    (tie.spec (λ c. search needs) (λ c. search needs) returns returns-2)

@@ -24,21 +24,11 @@ slice-write-result-5 c = simp length-set (omega arith)
 slice-write-result-6 : tie.Need-slice-write-result-6
 slice-write-result-6 c = search needs
 
-same-length : tie.Need-same-length
-same-length c = search needs
-
 returns : tie.Need-returns
 returns c = set-six (c .args .result .now) (c .args .area .w) (c .args .area .h) (c .args .kind) (c .args .x) (c .args .y) (c .args .z) (c .pre)
 
 pub put-six-spec : {M : Type 1} → statement M
 put-six-spec =
     tie.close
-    (tie.spec
-    slice-write-result
-    slice-write-result-2
-    slice-write-result-3
-    slice-write-result-4
-    slice-write-result-5
-    slice-write-result-6
-    same-length
-    returns)
+    (tie.spec slice-write-result slice-write-result-2 slice-write-result-3 slice-write-result-4 slice-write-result-5 slice-write-result-6
+    (λ c. search needs) returns)

@@ -15,13 +15,10 @@ slice-write-result-2 c = simp length-set (omega arith)
 slice-write-result-3 : tie.Need-slice-write-result-3
 slice-write-result-3 c = search needs
 
-same-length : tie.Need-same-length
-same-length c = search needs
-
 returns : tie.Need-returns
 returns c = set-three (c .args .result .now) (c .args .x) (c .args .y) (c .args .z) (c .pre)
 
 pub put-three-spec : {M : Type 1} → statement M
 put-three-spec =
     tie.close
-    (tie.spec slice-write-result slice-write-result-2 slice-write-result-3 same-length returns)
+    (tie.spec slice-write-result slice-write-result-2 slice-write-result-3 (λ c. search needs) returns)

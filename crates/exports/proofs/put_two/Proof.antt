@@ -10,11 +10,9 @@ slice-write-result c = search needs
 slice-write-result-2 : tie.Need-slice-write-result-2
 slice-write-result-2 c = search needs
 
-same-length : tie.Need-same-length
-same-length c = search needs
-
 returns : tie.Need-returns
 returns c = set-two (c .args .result .now) (c .args .x) (c .args .y) (c .pre)
 
 pub put-two-spec : {M : Type 1} → statement M
-put-two-spec = tie.close (tie.spec slice-write-result slice-write-result-2 same-length returns)
+put-two-spec = tie.close
+    (tie.spec slice-write-result slice-write-result-2 (λ c. search needs) returns)

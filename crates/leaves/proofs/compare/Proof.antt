@@ -9,15 +9,6 @@ use Rattle.leaves.proofs.Checks.{right-one, lower-one, higher-one}
 use Rattle.leaves.proofs.compare.Statement.{statement}
 use Rattle.leaves.proofs.compare.Tie as tie
 
-either-requires : tie.Need-either-requires
-either-requires c κs = search needs
-
-either-requires-2 : tie.Need-either-requires-2
-either-requires-2 c κs = search needs
-
-cast-i : tie.Need-cast-i
-cast-i c = search needs
-
 mul-if1 : tie.Need-mul-if1
 mul-if1 c = search needs
 
@@ -37,9 +28,6 @@ returns c =
     let asked = start .args in
     right-one (asked .by-square) (asked .table .now) (asked .least) (asked .n) (asked .p) (place .either .result) (due .either2 .result)
     (place .either .ensures) (due .either2 .ensures) (c .if1 .taken)
-
-wrong-word-requires : tie.Need-wrong-word-requires
-wrong-word-requires c κs = search needs
 
 returns-2 : tie.Need-returns-2
 returns-2 c =
@@ -66,13 +54,5 @@ returns-3 c =
 pub compare-spec : {M : Type 1} → statement M
 compare-spec =
     tie.close
-    (tie.spec
-    either-requires
-    either-requires-2
-    cast-i
-    mul-if1
-    shared-slice-read-if1
-    returns
-    wrong-word-requires
-    returns-2
+    (tie.spec (λ c κs. search needs) (λ c κs. search needs) (λ c. search needs) mul-if1 shared-slice-read-if1 returns (λ c κs. search needs) returns-2
     returns-3)

@@ -7,15 +7,6 @@ use Rattle.leaves.proofs.Entries.{either-below}
 use Rattle.leaves.proofs.enter.Statement.{statement}
 use Rattle.leaves.proofs.enter.Tie as tie
 
-either-requires : tie.Need-either-requires
-either-requires c κs = search needs
-
-cast-i : tie.Need-cast-i
-cast-i c = search needs
-
-either-requires-2 : tie.Need-either-requires-2
-either-requires-2 c κs = search needs
-
 mul-table : tie.Need-mul-table
 mul-table c = search needs
 
@@ -26,20 +17,10 @@ slice-write-table c =
     subst⁻¹ (λ (i : ℕ). i < length table) (c .before .either .ensures)
     (either-below (start .args .n) (start .args .p) (length table) (start .args .by-square) (start .pre .0) (start .pre .1))
 
-same-length : tie.Need-same-length
-same-length c = search needs
-
 returns : tie.Need-returns
 returns c = ap₂ (λ i v. set (c .before .before .before .args .table .now) i v) (c .before .either .ensures) (c .either2 .ensures)
 
 pub enter-spec : {M : Type 1} → statement M
 enter-spec =
     tie.close
-    (tie.spec
-    either-requires
-    cast-i
-    either-requires-2
-    mul-table
-    slice-write-table
-    same-length
-    returns)
+    (tie.spec (λ c κs. search needs) (λ c. search needs) (λ c κs. search needs) mul-table slice-write-table (λ c. search needs) returns)

@@ -15,9 +15,6 @@ add-enter c = record { fits = c .before .before .before .before .before .before 
 enter-requires-2 : tie.Need-enter-requires-2
 enter-requires-2 c κs = search needs
 
-same-length : tie.Need-same-length
-same-length c = search needs
-
 returns : tie.Need-returns
 returns c =
     let enter2 = c .before .before in
@@ -26,4 +23,5 @@ returns c =
     enter2 .enter2 .ensures ∙ ap (λ t. enter-one (start .args .by-square) t (start .args .n + 1) (start .args .q)) (enter .enter .ensures)
 
 pub enter-two-spec : {M : Type 1} → statement M
-enter-two-spec = tie.close (tie.spec enter-requires add-enter enter-requires-2 same-length returns)
+enter-two-spec = tie.close
+    (tie.spec enter-requires add-enter enter-requires-2 (λ c. search needs) returns)

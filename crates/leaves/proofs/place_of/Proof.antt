@@ -14,9 +14,6 @@ place-by : (along across : ℕ) (turned : Bool) (w : ℕ)
 place-by along across true w = refl
 place-by along across false w = refl
 
-either-requires : tie.Need-either-requires
-either-requires c κs = search needs
-
 mul-result : tie.Need-mul-result
 mul-result c =
     let given = c .before .args in
@@ -24,9 +21,6 @@ mul-result c =
     let all = c .before .pre in
     let row : c .either .result * given .w ≡ cond (given .turned) (given .along) (given .across) * given .w = ap (λ n. n * given .w) (c .either .ensures) in
     record { fits = omega arith }
-
-either-requires-2 : tie.Need-either-requires-2
-either-requires-2 c κs = search needs
 
 add-result : tie.Need-add-result
 add-result c =
@@ -43,4 +37,5 @@ returns c =
 
 pub place-of-spec : {M : Type 1} → statement M
 place-of-spec =
-    tie.close (tie.spec either-requires mul-result either-requires-2 add-result returns)
+    tie.close
+    (tie.spec (λ c κs. search needs) mul-result (λ c κs. search needs) add-result returns)

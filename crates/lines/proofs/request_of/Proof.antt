@@ -9,11 +9,9 @@ use Rattle.lines.proofs.request_of.Tie as tie
 returns : tie.Need-returns
 returns c = ap asked (long-line (c .before .before .args .line .now) (c .if1 .taken))
 
-read-three-requires : tie.Need-read-three-requires
-read-three-requires c κs = search needs
-
 returns-2 : tie.Need-returns-2
 returns-2 c = ap asked (c .read-three .ensures ∙ short-line (c .before .before .before .args .line .now) (c .before .if1 .left))
 
 pub request-of-spec : {M : Type 1} → statement M
-request-of-spec = tie.close (tie.spec returns read-three-requires returns-2)
+request-of-spec = tie.close
+    (tie.spec returns (λ c κs. search needs) returns-2)

@@ -9,17 +9,8 @@ use Rattle.orders.proofs.turn.Tie as tie
 read-some-requires : tie.Need-read-some-requires
 read-some-requires c κs = search needs
 
-slice-aggregate-fail-at : tie.Need-slice-aggregate-fail-at
-slice-aggregate-fail-at c = search needs
-
 fail-at-requires : tie.Need-fail-at-requires
 fail-at-requires c κs = search needs
-
-closed-requires : tie.Need-closed-requires
-closed-requires c κs = search needs
-
-same-length : tie.Need-same-length
-same-length c = search needs
 
 returns : tie.Need-returns
 returns c =
@@ -30,32 +21,11 @@ returns c =
 slice-reshare-prefix-serve : tie.Need-slice-reshare-prefix-serve
 slice-reshare-prefix-serve c = search needs
 
-slice-aggregate-serve : tie.Need-slice-aggregate-serve
-slice-aggregate-serve c = search needs
-
 serve-requires : tie.Need-serve-requires
 serve-requires c κs = search needs
 
-same-length-2 : tie.Need-same-length-2
-same-length-2 c = search needs
-
-same-length-3 : tie.Need-same-length-3
-same-length-3 c = search needs
-
-same-length-4 : tie.Need-same-length-4
-same-length-4 c = search needs
-
 returns-2 : tie.Need-returns-2
 returns-2 c = search needs
-
-same-length-5 : tie.Need-same-length-5
-same-length-5 c = search needs
-
-same-length-6 : tie.Need-same-length-6
-same-length-6 c = search needs
-
-same-length-7 : tie.Need-same-length-7
-same-length-7 c = search needs
 
 returns-3 : tie.Need-returns-3
 returns-3 c = search needs
@@ -63,21 +33,6 @@ returns-3 c = search needs
 pub turn-spec : {M : Type 1} → statement M
 turn-spec =
     tie.close
-    (tie.spec
-    read-some-requires
-    slice-aggregate-fail-at
-    fail-at-requires
-    closed-requires
-    same-length
-    returns
-    slice-reshare-prefix-serve
-    slice-aggregate-serve
-    serve-requires
-    same-length-2
-    same-length-3
-    same-length-4
-    returns-2
-    same-length-5
-    same-length-6
-    same-length-7
-    returns-3)
+    (tie.spec read-some-requires (λ c. search needs) fail-at-requires (λ c κs. search needs) (λ c. search needs) returns slice-reshare-prefix-serve
+    (λ c. search needs) serve-requires (λ c. search needs) (λ c. search needs) (λ c. search needs) returns-2 (λ c. search needs) (λ c. search needs)
+    (λ c. search needs) returns-3)

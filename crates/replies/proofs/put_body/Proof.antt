@@ -10,59 +10,17 @@ use Rattle.replies.proofs.Writing.{writes-as}
 use Rattle.replies.proofs.put_body.Statement.{statement}
 use Rattle.replies.proofs.put_body.Tie as tie
 
-enum-known-reply : tie.Need-enum-known-reply
-enum-known-reply c = search needs
-
-slice-aggregate-put-said : tie.Need-slice-aggregate-put-said
-slice-aggregate-put-said c = search needs
-
-slice-aggregate-put-said-2 : tie.Need-slice-aggregate-put-said-2
-slice-aggregate-put-said-2 c = search needs
-
 put-said-requires : tie.Need-put-said-requires
 put-said-requires c κs = search needs
-
-enum-known-reply-2 : tie.Need-enum-known-reply-2
-enum-known-reply-2 c = search needs
-
-slice-aggregate-put-said-3 : tie.Need-slice-aggregate-put-said-3
-slice-aggregate-put-said-3 c = search needs
-
-slice-aggregate-put-said-4 : tie.Need-slice-aggregate-put-said-4
-slice-aggregate-put-said-4 c = search needs
 
 put-said-requires-2 : tie.Need-put-said-requires-2
 put-said-requires-2 c κs = search needs
 
-enum-known-reply-3 : tie.Need-enum-known-reply-3
-enum-known-reply-3 c = search needs
-
-slice-aggregate-put-said-5 : tie.Need-slice-aggregate-put-said-5
-slice-aggregate-put-said-5 c = search needs
-
-slice-aggregate-put-said-6 : tie.Need-slice-aggregate-put-said-6
-slice-aggregate-put-said-6 c = search needs
-
 put-said-requires-3 : tie.Need-put-said-requires-3
 put-said-requires-3 c κs = search needs
 
-enum-known-reply-4 : tie.Need-enum-known-reply-4
-enum-known-reply-4 c = search needs
-
-refusal-number-requires : tie.Need-refusal-number-requires
-refusal-number-requires c κs = search needs
-
-slice-aggregate-put-said-7 : tie.Need-slice-aggregate-put-said-7
-slice-aggregate-put-said-7 c = search needs
-
-slice-aggregate-put-said-8 : tie.Need-slice-aggregate-put-said-8
-slice-aggregate-put-said-8 c = search needs
-
 put-said-requires-4 : tie.Need-put-said-requires-4
 put-said-requires-4 c κs = search needs
-
-same-length : tie.Need-same-length
-same-length c = search needs
 
 returns : tie.Need-returns
 returns c =
@@ -70,26 +28,17 @@ returns c =
     let known = wrote .before .before .before .before .before .reply .given .1 in
     (writes-as (ap body (sym (ap said known))) (wrote .put-said .ensures .0), omega arith)
 
-same-length-2 : tie.Need-same-length-2
-same-length-2 c = search needs
-
 returns-2 : tie.Need-returns-2
 returns-2 c =
     let wrote = c .before .before in
     let known = wrote .before .before .before .before .before .reply2 .given .1 in
     (writes-as (ap body (sym (ap said known))) (wrote .put-said2 .ensures .0), omega arith)
 
-same-length-3 : tie.Need-same-length-3
-same-length-3 c = search needs
-
 returns-3 : tie.Need-returns-3
 returns-3 c =
     let wrote = c .before .before in
     let known = wrote .before .before .before .before .before .reply3 .given .1 in
     (writes-as (ap body (sym (ap said known))) (wrote .put-said3 .ensures .0), omega arith)
-
-same-length-4 : tie.Need-same-length-4
-same-length-4 c = search needs
 
 returns-4 : tie.Need-returns-4
 returns-4 c =
@@ -102,29 +51,7 @@ returns-4 c =
 pub put-body-spec : {M : Type 1} → statement M
 put-body-spec =
     tie.close
-    (tie.spec
-    enum-known-reply
-    slice-aggregate-put-said
-    slice-aggregate-put-said-2
-    put-said-requires
-    enum-known-reply-2
-    slice-aggregate-put-said-3
-    slice-aggregate-put-said-4
-    put-said-requires-2
-    enum-known-reply-3
-    slice-aggregate-put-said-5
-    slice-aggregate-put-said-6
-    put-said-requires-3
-    enum-known-reply-4
-    refusal-number-requires
-    slice-aggregate-put-said-7
-    slice-aggregate-put-said-8
-    put-said-requires-4
-    same-length
-    returns
-    same-length-2
-    returns-2
-    same-length-3
-    returns-3
-    same-length-4
-    returns-4)
+    (tie.spec (λ c. search needs) (λ c. search needs) (λ c. search needs) put-said-requires (λ c. search needs) (λ c. search needs)
+    (λ c. search needs) put-said-requires-2 (λ c. search needs) (λ c. search needs) (λ c. search needs) put-said-requires-3 (λ c. search needs)
+    (λ c κs. search needs) (λ c. search needs) (λ c. search needs) put-said-requires-4 (λ c. search needs) returns (λ c. search needs) returns-2
+    (λ c. search needs) returns-3 (λ c. search needs) returns-4)

@@ -13,18 +13,12 @@ put-number-requires c κs =
     let few = ten-digits (start .args .line) (start .fits .line .fits) in
     omega arith
 
-slice-aggregate-put-bytes : tie.Need-slice-aggregate-put-bytes
-slice-aggregate-put-bytes c = search needs
-
 put-bytes-requires : tie.Need-put-bytes-requires
 put-bytes-requires c κs =
     let numbered = c .before .before .before .before in
     let start = numbered .before .before .before in
     let near = number-near (start .fits .line .fits) (numbered .put-number .ensures) in
     omega (arith, start .pre, numbered .put-number .kept .0)
-
-same-length : tie.Need-same-length
-same-length c = search needs
 
 returns : tie.Need-returns
 unfolding stop
@@ -38,4 +32,4 @@ returns c =
 pub put-stop-spec : {M : Type 1} → statement M
 put-stop-spec =
     tie.close
-    (tie.spec put-number-requires slice-aggregate-put-bytes put-bytes-requires same-length returns)
+    (tie.spec put-number-requires (λ c. search needs) put-bytes-requires (λ c. search needs) returns)

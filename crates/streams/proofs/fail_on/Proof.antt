@@ -9,14 +9,8 @@ use Rattle.streams.proofs.fail_on.Tie as tie
 buffer-requires : tie.Need-buffer-requires
 buffer-requires c κs = search needs
 
-slice-aggregate-put : tie.Need-slice-aggregate-put
-slice-aggregate-put c = search needs
-
 put-requires : tie.Need-put-requires
 put-requires c κs = search needs
-
-slice-aggregate-put-2 : tie.Need-slice-aggregate-put-2
-slice-aggregate-put-2 c = search needs
 
 put-requires-2 : tie.Need-put-requires-2
 put-requires-2 c κs = search needs
@@ -39,13 +33,5 @@ returns c = search needs
 pub fail-on-spec : {M : Type 1} → statement M
 fail-on-spec =
     tie.close
-    (tie.spec
-    buffer-requires
-    slice-aggregate-put
-    put-requires
-    slice-aggregate-put-2
-    put-requires-2
-    array-share-prefix-text
-    slice-aggregate-fail
-    fail-requires
-    returns)
+    (tie.spec buffer-requires (λ c. search needs) put-requires (λ c. search needs) put-requires-2 array-share-prefix-text slice-aggregate-fail
+    fail-requires returns)

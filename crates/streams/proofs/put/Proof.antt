@@ -42,27 +42,11 @@ loop-again c = search needs
 add-result : tie.Need-add-result Inv-loop μ-loop
 add-result c = search needs
 
-same-length : tie.Need-same-length Inv-loop μ-loop
-same-length c = search needs
-
 returns : tie.Need-returns Inv-loop μ-loop
 returns c = search needs
 
 pub put-spec : {M : Type 1} → statement M
 put-spec =
     tie.close
-    (tie.spec
-    Inv-loop
-    μ-loop
-    sub-fitting
-    fitting-requires
-    loop-holds
-    shared-slice-read-text
-    add-text
-    slice-write-text
-    add-i
-    loop-less
-    loop-again
-    add-result
-    same-length
-    returns)
+    (tie.spec Inv-loop μ-loop sub-fitting fitting-requires loop-holds shared-slice-read-text add-text slice-write-text add-i loop-less loop-again
+    add-result (λ c. search needs) returns)

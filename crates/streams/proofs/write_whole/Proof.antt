@@ -26,9 +26,6 @@ part-write-some-start c = search needs
 part-write-some-end : tie.Need-part-write-some-end Inv-loop μ-loop
 part-write-some-end c = search needs
 
-write-some-requires : tie.Need-write-some-requires Inv-loop μ-loop
-write-some-requires c κs = search needs
-
 returns-2 : tie.Need-returns-2 Inv-loop μ-loop
 returns-2 c = search needs
 
@@ -50,18 +47,5 @@ returns-3 c = search needs
 pub write-whole-spec : {M : Type 1} → statement M
 write-whole-spec =
     tie.close
-    (tie.spec
-    Inv-loop
-    μ-loop
-    loop-holds
-    returns
-    sub-write-some
-    part-write-some-start
-    part-write-some-end
-    write-some-requires
-    returns-2
-    add-from
-    sub-tries
-    loop-less
-    loop-again
-    returns-3)
+    (tie.spec Inv-loop μ-loop loop-holds returns sub-write-some part-write-some-start part-write-some-end (λ c κs. search needs) returns-2 add-from
+    sub-tries loop-less loop-again returns-3)

@@ -17,11 +17,9 @@ slice-aggregate-is-word c =
     let start = c .before .before .before .before in
     sym (length-take-le (length (start .args .word .now)) (start .args .line .now) (c .before .if1 .left))
 
-is-word-requires : tie.Need-is-word-requires
-is-word-requires c κs = search needs
-
 returns-2 : tie.Need-returns-2
 returns-2 c = search needs
 
 pub begins-with-spec : {M : Type 1} → statement M
-begins-with-spec = tie.close (tie.spec returns slice-aggregate-is-word is-word-requires returns-2)
+begins-with-spec = tie.close
+    (tie.spec returns slice-aggregate-is-word (λ c κs. search needs) returns-2)

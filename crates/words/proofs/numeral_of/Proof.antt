@@ -8,9 +8,6 @@ use Rattle.words.proofs.Numerals.{ill-begun, too-long, too-large, a-num
 use Rattle.words.proofs.numeral_of.Statement.{statement}
 use Rattle.words.proofs.numeral_of.Tie as tie
 
-begins-well-requires : tie.Need-begins-well-requires
-begins-well-requires c κs = search needs
-
 returns : tie.Need-returns
 returns c = ap numeral-figures (ill-begun _ (sym (c .before .begins-well .ensures) ∙ not-true _ (c .if1 .taken)))
 
@@ -37,11 +34,4 @@ returns-4 c =
 pub numeral-of-spec : {M : Type 1} → statement M
 numeral-of-spec =
     tie.close
-    (tie.spec
-    begins-well-requires
-    returns
-    returns-2
-    digits-value-requires
-    returns-3
-    cast-t6
-    returns-4)
+    (tie.spec (λ c κs. search needs) returns returns-2 digits-value-requires returns-3 cast-t6 returns-4)

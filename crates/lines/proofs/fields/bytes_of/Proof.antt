@@ -9,15 +9,9 @@ use Rattle.lines.specs.Reading.{piece}
 use Rattle.lines.proofs.fields.bytes_of.Statement.{statement}
 use Rattle.lines.proofs.fields.bytes_of.Tie as tie
 
-slice-aggregate-result : tie.Need-slice-aggregate-result
-slice-aggregate-result c = search needs
-
 returns : tie.Need-returns
 unfolding piece
 returns c = sym (rw (lt-leb (c .before .before .args .f .start) (c .before .before .args .f .end) (c .before .if1 .taken)))
-
-slice-aggregate-result-2 : tie.Need-slice-aggregate-result-2
-slice-aggregate-result-2 c = search needs
 
 returns-2 : tie.Need-returns-2
 unfolding piece
@@ -43,11 +37,4 @@ returns-3 c =
 pub bytes-of-spec : {M : Type 1} → statement M
 bytes-of-spec =
     tie.close
-    (tie.spec
-    slice-aggregate-result
-    returns
-    slice-aggregate-result-2
-    returns-2
-    part-result-start
-    part-result-end
-    returns-3)
+    (tie.spec (λ c. search needs) returns (λ c. search needs) returns-2 part-result-start part-result-end returns-3)

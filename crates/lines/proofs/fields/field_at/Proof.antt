@@ -5,9 +5,6 @@ use Rattle.lines.proofs.Words.{one-more, no-more}
 use Rattle.lines.proofs.fields.field_at.Statement.{statement}
 use Rattle.lines.proofs.fields.field_at.Tie as tie
 
-end-of-requires : tie.Need-end-of-requires
-end-of-requires c κs = search needs
-
 add-t6 : tie.Need-add-t6
 add-t6 c = record { fits = let l = c .if1 .taken in omega arith }
 
@@ -18,4 +15,5 @@ returns-2 : tie.Need-returns-2
 returns-2 c = no-more _ _ _ (c .before .end-of .ensures) (c .if1 .left)
 
 pub field-at-spec : {M : Type 1} → statement M
-field-at-spec = tie.close (tie.spec end-of-requires add-t6 returns returns-2)
+field-at-spec = tie.close
+    (tie.spec (λ c κs. search needs) add-t6 returns returns-2)

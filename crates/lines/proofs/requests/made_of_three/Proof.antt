@@ -8,15 +8,6 @@ use Rattle.lines.specs.Reading.{made-of-three}
 use Rattle.lines.proofs.requests.made_of_three.Statement.{statement}
 use Rattle.lines.proofs.requests.made_of_three.Tie as tie
 
-bytes-of-requires : tie.Need-bytes-of-requires
-bytes-of-requires c κs = search needs
-
-bytes-of-requires-2 : tie.Need-bytes-of-requires-2
-bytes-of-requires-2 c κs = search needs
-
-two-fields-requires : tie.Need-two-fields-requires
-two-fields-requires c κs = search needs
-
 returns : tie.Need-returns
 unfolding made-of-three
 returns c =
@@ -26,18 +17,6 @@ returns c =
     c .two-fields .ensures
     ∙ ap₂ two-fields (bytes-of .bytes-of .ensures) (c .before .bytes-of2 .ensures)
     ∙ sym (rw (eq-eqb (start .args .b .end) (length (start .args .line .now)) (first-test .if1 .taken)))
-
-bytes-of-requires-3 : tie.Need-bytes-of-requires-3
-bytes-of-requires-3 c κs = search needs
-
-bytes-of-requires-4 : tie.Need-bytes-of-requires-4
-bytes-of-requires-4 c κs = search needs
-
-bytes-of-requires-5 : tie.Need-bytes-of-requires-5
-bytes-of-requires-5 c κs = search needs
-
-three-fields-requires : tie.Need-three-fields-requires
-three-fields-requires c κs = search needs
 
 returns-2 : tie.Need-returns-2
 unfolding made-of-three
@@ -63,14 +42,5 @@ returns-3 c =
 pub made-of-three-spec : {M : Type 1} → statement M
 made-of-three-spec =
     tie.close
-    (tie.spec
-    bytes-of-requires
-    bytes-of-requires-2
-    two-fields-requires
-    returns
-    bytes-of-requires-3
-    bytes-of-requires-4
-    bytes-of-requires-5
-    three-fields-requires
-    returns-2
-    returns-3)
+    (tie.spec (λ c κs. search needs) (λ c κs. search needs) (λ c κs. search needs) returns (λ c κs. search needs) (λ c κs. search needs)
+    (λ c κs. search needs) (λ c κs. search needs) returns-2 returns-3)

@@ -4,26 +4,8 @@ use mathlib.Core.Path.{sym, _∙_}
 use Rattle.lines.proofs.requests.three_fields.Statement.{statement}
 use Rattle.lines.proofs.requests.three_fields.Tie as tie
 
-slice-aggregate-is-word : tie.Need-slice-aggregate-is-word
-slice-aggregate-is-word c = search needs
-
-is-word-requires : tie.Need-is-word-requires
-is-word-requires c κs = search needs
-
-with-two-requires : tie.Need-with-two-requires
-with-two-requires c κs = search needs
-
 returns : tie.Need-returns
 returns c = c .with-two .ensures ∙ sym (rw (sym (c .before .before .is-word .ensures) ∙ c .before .if1 .taken))
-
-slice-aggregate-is-word-2 : tie.Need-slice-aggregate-is-word-2
-slice-aggregate-is-word-2 c = search needs
-
-is-word-requires-2 : tie.Need-is-word-requires-2
-is-word-requires-2 c κs = search needs
-
-with-two-requires-2 : tie.Need-with-two-requires-2
-with-two-requires-2 c κs = search needs
 
 returns-2 : tie.Need-returns-2
 returns-2 c =
@@ -42,13 +24,5 @@ returns-3 c =
 pub three-fields-spec : {M : Type 1} → statement M
 three-fields-spec =
     tie.close
-    (tie.spec
-    slice-aggregate-is-word
-    is-word-requires
-    with-two-requires
-    returns
-    slice-aggregate-is-word-2
-    is-word-requires-2
-    with-two-requires-2
-    returns-2
-    returns-3)
+    (tie.spec (λ c. search needs) (λ c κs. search needs) (λ c κs. search needs) returns (λ c. search needs) (λ c κs. search needs)
+    (λ c κs. search needs) returns-2 returns-3)

@@ -4,15 +4,6 @@ use mathlib.Core.Path.{sym, _∙_}
 use Rattle.lines.proofs.requests.two_fields.Statement.{statement}
 use Rattle.lines.proofs.requests.two_fields.Tie as tie
 
-slice-aggregate-is-word : tie.Need-slice-aggregate-is-word
-slice-aggregate-is-word c = search needs
-
-is-word-requires : tie.Need-is-word-requires
-is-word-requires c κs = search needs
-
-with-one-requires : tie.Need-with-one-requires
-with-one-requires c κs = search needs
-
 returns : tie.Need-returns
 returns c = c .with-one .ensures ∙ sym (rw (sym (c .before .before .is-word .ensures) ∙ c .before .if1 .taken))
 
@@ -22,4 +13,4 @@ returns-2 c = sym (rw (sym (c .before .is-word .ensures) ∙ c .if1 .left))
 pub two-fields-spec : {M : Type 1} → statement M
 two-fields-spec =
     tie.close
-    (tie.spec slice-aggregate-is-word is-word-requires with-one-requires returns returns-2)
+    (tie.spec (λ c. search needs) (λ c κs. search needs) (λ c κs. search needs) returns returns-2)
