@@ -1,16 +1,14 @@
 -- Document 01's example of order lines, from the definitions alone: its input gives exactly its output. The squares are the division's own, by `Worked`.
-use mathlib.Core.Bool.{true, false, cond}
+use mathlib.Core.Bool.{true, false, cond, false≢true}
 use mathlib.Core.List.{List, [], _∷_, _++_}
 use mathlib.Core.Path.{_≡_, refl, sym, ap, ap₂, _∙_}
 use Prim.Native.Nat.{ℕ, _+_}
 use Prim.Native.String.{String}
 use native.Mathlib.Nat.{le-refl}
-use native.Mathlib.Omega.{arith}
 use lib.Dec.{leb, eqb, lit<}
 use lib.ListN.{drop}
 use Rattle.terms.specs.declared.Refusal.the-variants.{NumberOutside}
 use Rattle.terms.specs.Terms.{accepted, answered, refused}
-use Rattle.terms.proofs.Laws.{bit}
 use Rattle.division.specs.Division.{Square, whole, blocks-holding}
 use Rattle.division.specs.Division.Worked.{eighth, eighth-held}
 use Rattle.curve.specs.Lookups.{number-to-square, square-to-number, finish-square}
@@ -87,7 +85,7 @@ sets-it = refl
 keeps-it : (line : List ℕ) → begins line AREA ≡ false → after three-by-four line ≡ three-by-four
 keeps-it line e =
     others-alter-nothing three-by-four line
-    (λ begins. let z : _≡_ {A = ℕ} 0 1 = ap bit (sym e ∙ ap (λ b. same-bytes b AREA) begins ∙ same-itself AREA) in omega arith)
+    (λ begins. false≢true (sym e ∙ ap (λ b. same-bytes b AREA) begins ∙ same-itself AREA))
 
 -- the input's five lines
 abbrev the-lines : List (List ℕ)

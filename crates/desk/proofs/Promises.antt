@@ -1,12 +1,11 @@
 -- What the desk's promises come to: two results that meet one are one, and a reader that repeats its first answer is turned away, as are wrong programs
 -- for the small functions.
-use mathlib.Core.Bool.{true, false}
+use mathlib.Core.Bool.{true, false, true≢false, false≢true}
 use mathlib.Core.List.{List, [], _∷_, _++_}
 use mathlib.Core.Path.{_≡_, ap}
 use Prim.Native.Nat.{ℕ, _+_, _≤_}
 use native.Mathlib.Omega.{arith}
 use lib.ListN.{getD, replicate}
-use Rattle.terms.proofs.Laws.{bit}
 use Rattle.terms.proofs.Ones.{one-equation}
 use Rattle.words.specs.Words.{all-digits, value-on, is-number, numeral, same-bytes}
 use Rattle.lines.specs.Lines.{fields, shaped, request}
@@ -53,11 +52,11 @@ pub counts-from-nothing : record { clerk = NoArea; line = 0; begun = 0; closed =
 counts-from-nothing promise = let other : _≡_ {A = ℕ} 0 1 = ap (λ (d : Desk). d .line) promise in omega arith
 
 pub reads-none : record { clerk = NoArea; line = 1; begun = 0; closed = true } ≡ at-first → ⊥
-reads-none promise = let other : _≡_ {A = ℕ} 1 0 = ap (λ (d : Desk). bit (d .closed)) promise in omega arith
+reads-none promise = true≢false (ap (λ (d : Desk). d .closed) promise)
 
 -- Turned away, of `closed`: one that leaves the desk reading, and one that closes it but forgets where it stood.
 pub reads-on : ((d : Desk) → d ≡ stopped d) → ⊥
-reads-on promise = let other : _≡_ {A = ℕ} 0 1 = ap (λ (d : Desk). bit (d .closed)) (promise at-first) in omega arith
+reads-on promise = false≢true (ap (λ (d : Desk). d .closed) (promise at-first))
 
 pub begins-anew : ((d : Desk) → record { clerk = NoArea; line = 1; begun = 0; closed = true } ≡ stopped d) → ⊥
 begins-anew promise =

@@ -1,13 +1,12 @@
 -- What the promises come to: a reply's text is its line's number, its word and its numbers, in decimal and with a space between each two; and two results that
 -- meet a promise are one. And what they turn away: each wrong program is met by a buffer in which it would have to leave two things at once.
-use mathlib.Core.Bool.{true}
+use mathlib.Core.Bool.{true, true≢false}
 use mathlib.Core.List.{List, [], _∷_, _++_, map, append-nil, append-assoc}
 use mathlib.Core.Path.{_≡_, refl, sym, ap, _∙_}
 use Prim.Native.Nat.{ℕ, _+_}
 use native.Mathlib.Omega.{arith}
 use lib.Dec.{leb}
 use lib.ListN.{replicate}
-use Rattle.terms.proofs.Laws.{bit}
 use Rattle.words.specs.Letters.{bytes}
 use Rattle.lines.proofs.Asking.{between}
 use Rattle.clerk.specs.Clerk.{Word, Area-set, Cell, Number, Refused, Said, says}
@@ -47,10 +46,10 @@ writes-one w w′ = (w .written ∙ sym (w′ .written), w .behind ∙ sym (w′
 
 -- Of `has_room`: one that always finds room, and one that asks for a single byte.
 pub always-room : ((at size : ℕ) → true ≡ leb (at + longest) size) → ⊥
-always-room promise = let other : _≡_ {A = ℕ} 1 0 = ap bit (promise 0 0) in omega arith
+always-room promise = true≢false (promise 0 0)
 
 pub room-for-a-byte : ((at size : ℕ) → leb (at + 1) size ≡ leb (at + longest) size) → ⊥
-room-for-a-byte promise = let other : _≡_ {A = ℕ} 1 0 = ap bit (promise 0 1) in omega arith
+room-for-a-byte promise = true≢false (promise 0 1)
 
 -- Of `write_reply` and `write_stop`: one that writes nothing, and one that writes the same for every line.
 abbrev buffer : List ℕ

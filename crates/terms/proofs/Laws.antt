@@ -84,10 +84,6 @@ refusal-some r e = let some : length (numbered 0) ≡ 1 = ap (λ n. length (numb
 pub refusal-not-0 : (r : Refusal) → eqb (refusal-number r) 0 ≡ false
 refusal-not-0 r = ne-eqb (refusal-number r) 0 (refusal-some r)
 
--- For telling two results apart: a test as a number, and the i-th value of some figures.
-abbrev pub bit : Bool → ℕ
-bit true = 1
-bit false = 0
-
+-- For telling two results apart: the i-th value of some figures.
 abbrev pub figure : ℕ → Figures → ℕ
 figure i f = getD (f .values) i 0
