@@ -1,7 +1,7 @@
 -- What a block's case says: its lengths, its curve and its blocks by the four rules, and its shape; and the one induction over blocks that every
 -- further law uses.
 use mathlib.Core.List.{[], _∷_, _++_, map, flatten, append-nil}
-use mathlib.Core.Path.{_≡_, ap, subst}
+use mathlib.Core.Path.{_≡_, subst, subst⁻¹}
 use Prim.Native.Nat.{ℕ, zero, suc, _+_, _≤_}
 use native.Mathlib.Nat.{le-refl}
 use native.Mathlib.Omega.{arith}
@@ -12,48 +12,32 @@ use Rattle.division.specs.Division.Inside.{Sized}
 use Rattle.division.proofs.Rules.{All, All-map, Chosen, is-run, is-side, is-long, is-u, chosen, parts-are, smaller, curve-rule, blocks-rule}
 
 -- what a case says of the lengths: a straight block has one length 1, and one that is cut has both from 2 on
-tag : Choice → ℕ
-tag StraightRun = 0
-tag StraightSide = 1
-tag LongCut = 2
-tag UCut = 3
+abbrev Lengths : Choice → (a b : ℕ) → Type 0
+Lengths StraightRun a b = b ≡ 1
+Lengths StraightSide a b = a ≡ 1
+Lengths LongCut a b = (2 ≤ a) × (2 ≤ b)
+Lengths UCut a b = (2 ≤ a) × (2 ≤ b)
 
-cut-by : (a b : ℕ) → Chosen a b → 2 ≤ tag (choice a b) → (2 ≤ a) × (2 ≤ b)
-unfolding tag
-cut-by a b (is-run e o) t = absurd (omega (arith, ap tag e))
-cut-by a b (is-side e o l) t = absurd (omega (arith, ap tag e))
-cut-by a b (is-long e la lb l) t = (la, lb)
-cut-by a b (is-u e la lb l) t = (la, lb)
+lengths-by : (a b : ℕ) → Chosen a b → Lengths (choice a b) a b
+lengths-by a b (is-run e one) = subst⁻¹ (λ (c : Choice). Lengths c a b) e one
+lengths-by a b (is-side e one l) = subst⁻¹ (λ (c : Choice). Lengths c a b) e one
+lengths-by a b (is-long e la lb l) = subst⁻¹ (λ (c : Choice). Lengths c a b) e (la, lb)
+lengths-by a b (is-u e la lb l) = subst⁻¹ (λ (c : Choice). Lengths c a b) e (la, lb)
 
-run-by : (a b : ℕ) → Chosen a b → tag (choice a b) ≡ 0 → b ≡ 1
-unfolding tag
-run-by a b (is-run e o) t = o
-run-by a b (is-side e o l) t = absurd (omega (arith, ap tag e))
-run-by a b (is-long e la lb l) t = absurd (omega (arith, ap tag e))
-run-by a b (is-u e la lb l) t = absurd (omega (arith, ap tag e))
-
-side-by : (a b : ℕ) → Chosen a b → tag (choice a b) ≡ 1 → a ≡ 1
-unfolding tag
-side-by a b (is-run e o) t = absurd (omega (arith, ap tag e))
-side-by a b (is-side e o l) t = o
-side-by a b (is-long e la lb l) t = absurd (omega (arith, ap tag e))
-side-by a b (is-u e la lb l) t = absurd (omega (arith, ap tag e))
+lengths : (k : Block) (c : Choice) → Sized k → choice (k .a) (k .b) ≡ c → Lengths c (k .a) (k .b)
+lengths k c h e = subst (λ (c : Choice). Lengths c (k .a) (k .b)) e (lengths-by (k .a) (k .b) (chosen k h))
 
 pub run-length : (k : Block) → Sized k → choice (k .a) (k .b) ≡ StraightRun → k .b ≡ 1
-unfolding tag
-run-length k h e = run-by (k .a) (k .b) (chosen k h) (ap tag e)
+run-length k h e = lengths k StraightRun h e
 
 pub side-length : (k : Block) → Sized k → choice (k .a) (k .b) ≡ StraightSide → k .a ≡ 1
-unfolding tag
-side-length k h e = side-by (k .a) (k .b) (chosen k h) (ap tag e)
+side-length k h e = lengths k StraightSide h e
 
 pub long-lengths : (k : Block) → Sized k → choice (k .a) (k .b) ≡ LongCut → (2 ≤ k .a) × (2 ≤ k .b)
-unfolding tag
-long-lengths k h e = cut-by (k .a) (k .b) (chosen k h) (omega (arith, ap tag e))
+long-lengths k h e = lengths k LongCut h e
 
 pub u-lengths : (k : Block) → Sized k → choice (k .a) (k .b) ≡ UCut → (2 ≤ k .a) × (2 ≤ k .b)
-unfolding tag
-u-lengths k h e = cut-by (k .a) (k .b) (chosen k h) (omega (arith, ap tag e))
+u-lengths k h e = lengths k UCut h e
 
 -- what holds of a block whenever it holds of its parts holds of every sized block
 induction-to : (P : Block → Type 0) → ((k : Block) → Sized k → All P (parts k) → P k) → (n : ℕ) (k : Block) → Sized k → k .a + k .b ≤ n → P k
