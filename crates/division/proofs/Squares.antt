@@ -64,15 +64,15 @@ module _ (a b : ℕ) (la : 1 ≤ a) (lb : 1 ≤ b) (n : ℕ) where
   area-side-at c l = side-square (whole a b) (rule (whole a b) StraightSide (record { run = la; side = lb }) c .0) n l ∙ ap (square 0) (zero-add n)
 
 -- `seen-from` is the way back from `seen-in`
-pub entered-inner : (a b : ℕ) (p : Part) (s : Square) → Within (part p (whole a b) .a) (part p (whole a b) .b) s
+pub seen-back : (a b : ℕ) (p : Part) (s : Square) → Within (part p (whole a b) .a) (part p (whole a b) .b) s
     → seen-in p (record { a = a; b = b; u = seen-from p a b s .x; v = seen-from p a b s .y })
     ≡ record { a = part p (whole a b) .a; b = part p (whole a b) .b; u = s .x; v = s .y }
 unfolding part seen-from whole
-entered-inner a b First s l = refl
-entered-inner a b Second s l = λ i. record { a = a - even-half a; b = b; u = add-sub-cancel-left (even-half a) (s .x) i; v = s .y }
-entered-inner a b A s l = refl
-entered-inner a b B s l = λ i. record { a = a; b = b - even-half b; u = s .x; v = add-sub-cancel-left (even-half b) (s .y) i }
-entered-inner a b C s l =
+seen-back a b First s l = refl
+seen-back a b Second s l = λ i. record { a = a - even-half a; b = b; u = add-sub-cancel-left (even-half a) (s .x) i; v = s .y }
+seen-back a b A s l = refl
+seen-back a b B s l = λ i. record { a = a; b = b - even-half b; u = s .x; v = add-sub-cancel-left (even-half b) (s .y) i }
+seen-back a b C s l =
     let u : even-half b - 1 - (even-half b - 1 - s .x) ≡ s .x = let along = l .run in omega arith in
     let v : a - 1 - (a - 1 - s .y) ≡ s .y = let across = l .side in omega arith in
     λ i. record { a = even-half b; b = a - a / 2; u = u i; v = v i }
