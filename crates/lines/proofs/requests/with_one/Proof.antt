@@ -1,8 +1,6 @@
 -- `lines::requests::with_one` meets its contract: the field is there, then it is read.
 use borrow.Author.Needs.{needs}
-use mathlib.Core.Path.{refl, sym, _∙_}
 use Rattle.lines.specs.declared.Request.the-variants.{AskNumber}
-use Rattle.words.proofs.Promises.{numeral-one}
 use Rattle.lines.proofs.Shapes.{one-empty, one-there}
 use Rattle.lines.proofs.requests.with_one.Statement.{statement}
 use Rattle.lines.proofs.requests.with_one.Tie as tie
@@ -10,21 +8,29 @@ use Rattle.lines.proofs.requests.with_one.Tie as tie
 returns : tie.Need-returns
 returns c = one-empty (λ i. AskNumber i) (c .before .before .args .a .now) (c .if1 .taken)
 
+numeral-of-requires : tie.Need-numeral-of-requires
+numeral-of-requires c κs = search needs
+
+enum-known-i : tie.Need-enum-known-i
+enum-known-i c = search needs
+
+enum-told : tie.Need-enum-told
+enum-told c = search needs
+
 returns-2 : tie.Need-returns-2
 returns-2 c =
     let number = c .before .before .before in
     let first-test = number .before in
     let start = first-test .before .before in
-    one-there (λ i. AskNumber i) (start .args .a .now) (first-test .if1 .left) _ (sym (c .before .i .given .1) ∙ numeral-one _ _ (number .numeral-of .ensures) refl)
+    one-there (λ i. AskNumber i) (start .args .a .now) (first-test .if1 .left) (number .numeral-of .ensures) (c .before .i .given .1)
 
 returns-3 : tie.Need-returns-3
 returns-3 c =
     let number = c .before .before in
     let first-test = number .before in
     let start = first-test .before .before in
-    one-there (λ i. AskNumber i) (start .args .a .now) (first-test .if1 .left) _ (sym (c .enum-told .given .1) ∙ numeral-one _ _ (number .numeral-of .ensures) refl)
+    one-there (λ i. AskNumber i) (start .args .a .now) (first-test .if1 .left) (number .numeral-of .ensures) (c .enum-told .given .1)
 
 pub with-one-spec : {M : Type 1} → statement M
 with-one-spec =
-    tie.close
-    (tie.spec returns (λ c κs. search needs) (λ c. search needs) (λ c. search needs) returns-2 returns-3)
+    tie.close (tie.spec returns numeral-of-requires enum-known-i enum-told returns-2 returns-3)

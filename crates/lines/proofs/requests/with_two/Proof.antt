@@ -1,74 +1,94 @@
 -- `lines::requests::with_two` meets its contract: both fields are there, then they are read.
 use borrow.Author.Needs.{needs}
-use mathlib.Core.Bool.{cond}
-use mathlib.Core.Path.{refl, sym, _∙_}
+use mathlib.Core.Bool.{Bool, cond}
+use mathlib.Core.Path.{sym, _∙_}
+use Prim.Native.Nat.{ℕ}
+use Rattle.lines.specs.declared.Request.{Request}
 use Rattle.lines.specs.declared.Request.the-variants.{SetArea, AskSquare}
-use Rattle.words.proofs.Promises.{numeral-one}
-use Rattle.lines.proofs.Shapes.{first-empty, second-empty, two-there}
+use Rattle.lines.proofs.Shapes.{first-empty, second-empty, two-there, second-unread}
 use Rattle.lines.proofs.requests.with_two.Statement.{statement}
 use Rattle.lines.proofs.requests.with_two.Tie as tie
+
+-- what two numbers ask
+abbrev asked : Bool → ℕ → ℕ → Request
+asked sets = cond sets (λ w h. SetArea w h) (λ x y. AskSquare x y)
 
 returns : tie.Need-returns
 returns c =
     let start = c .before .before .before in
-    first-empty (cond (start .args .sets) (λ w h. SetArea w h) (λ x y. AskSquare x y)) (start .args .a .now) (start .args .b .now) (c .if1 .taken)
+    first-empty (asked (start .args .sets)) (start .args .a .now) (start .args .b .now) (c .if1 .taken)
 
 returns-2 : tie.Need-returns-2
 returns-2 c =
     let start = c .before .before .before .before in
-    second-empty (cond (start .args .sets) (λ w h. SetArea w h) (λ x y. AskSquare x y)) (start .args .a .now) (start .args .b .now) (c .if2 .taken)
+    second-empty (asked (start .args .sets)) (start .args .a .now) (start .args .b .now) (c .if2 .taken)
+
+numeral-of-requires : tie.Need-numeral-of-requires
+numeral-of-requires c κs = search needs
+
+enum-known-x : tie.Need-enum-known-x
+enum-known-x c = search needs
+
+numeral-of-requires-2 : tie.Need-numeral-of-requires-2
+numeral-of-requires-2 c κs = search needs
+
+enum-known-y : tie.Need-enum-known-y
+enum-known-y c = search needs
 
 returns-3 : tie.Need-returns-3
 returns-3 c =
-    let at-y = c .before .before in
-    let number2 = at-y .before .before in
-    let at-x = number2 .before .before in
-    let number = at-x .before .before in
-    let second-test = number .before in
-    let first-test = second-test .before in
-    let start = first-test .before .before .before in
+    let y-read = c .before .before in
+    let x-read = y-read .before .before .before .before in
+    let there = x-read .before .before .before in
+    let start = there .before .before .before .before in
     sym (rw (c .if3 .taken))
-    ∙ two-there (cond (start .args .sets) (λ w h. SetArea w h) (λ x y. AskSquare x y)) (start .args .a .now) (start .args .b .now) (first-test .if1 .left)
-    (second-test .if2 .left) _ _ (sym (at-x .x .given .1) ∙ numeral-one _ _ (number .numeral-of .ensures) refl)
-    (sym (at-y .y .given .1) ∙ numeral-one _ _ (number2 .numeral-of2 .ensures) refl)
+    ∙ two-there (asked (start .args .sets)) (start .args .a .now) (start .args .b .now) (there .before .if1 .left) (there .if2 .left)
+    (x-read .before .before .numeral-of .ensures) (x-read .x .given .1) (y-read .before .before .numeral-of2 .ensures) (y-read .y .given .1)
+
+enum-told : tie.Need-enum-told
+enum-told c = search needs
+
+enum-told-2 : tie.Need-enum-told-2
+enum-told-2 c = search needs
 
 returns-4 : tie.Need-returns-4
 returns-4 c =
-    let at-y = c .before .before in
-    let number2 = at-y .before .before in
-    let at-x = number2 .before .before in
-    let number = at-x .before .before in
-    let second-test = number .before in
-    let first-test = second-test .before in
-    let start = first-test .before .before .before in
+    let y-read = c .before .before in
+    let x-read = y-read .before .before .before .before in
+    let there = x-read .before .before .before in
+    let start = there .before .before .before .before in
     sym (rw (c .if3 .left))
-    ∙ two-there (cond (start .args .sets) (λ w h. SetArea w h) (λ x y. AskSquare x y)) (start .args .a .now) (start .args .b .now) (first-test .if1 .left)
-    (second-test .if2 .left) _ _ (sym (at-x .x .given .1) ∙ numeral-one _ _ (number .numeral-of .ensures) refl)
-    (sym (at-y .y .given .1) ∙ numeral-one _ _ (number2 .numeral-of2 .ensures) refl)
+    ∙ two-there (asked (start .args .sets)) (start .args .a .now) (start .args .b .now) (there .before .if1 .left) (there .if2 .left)
+    (x-read .before .before .numeral-of .ensures) (x-read .x .given .1) (y-read .before .before .numeral-of2 .ensures) (y-read .y .given .1)
 
 returns-5 : tie.Need-returns-5
 returns-5 c =
-    let number2 = c .before .before in
-    let at-x = number2 .before .before in
-    let number = at-x .before .before in
-    let second-test = number .before in
-    let first-test = second-test .before in
-    let start = first-test .before .before .before in
-    two-there (cond (start .args .sets) (λ w h. SetArea w h) (λ x y. AskSquare x y)) (start .args .a .now) (start .args .b .now) (first-test .if1 .left)
-    (second-test .if2 .left) _ _ (sym (at-x .x .given .1) ∙ numeral-one _ _ (number .numeral-of .ensures) refl)
-    (sym (c .enum-told .given .1) ∙ numeral-one _ _ (number2 .numeral-of2 .ensures) refl)
+    let x-read = c .before .before .before .before in
+    let there = x-read .before .before .before in
+    let start = there .before .before .before .before in
+    two-there (asked (start .args .sets)) (start .args .a .now) (start .args .b .now) (there .before .if1 .left) (there .if2 .left)
+    (x-read .before .before .numeral-of .ensures) (x-read .x .given .1) (c .before .before .numeral-of2 .ensures) (c .enum-told .given .1)
 
 returns-6 : tie.Need-returns-6
 returns-6 c =
-    let number = c .before .before in
-    let second-test = number .before in
-    let first-test = second-test .before in
-    let start = first-test .before .before .before in
-    two-there (cond (start .args .sets) (λ w h. SetArea w h) (λ x y. AskSquare x y)) (start .args .a .now) (start .args .b .now) (first-test .if1 .left)
-    (second-test .if2 .left) _ _ (sym (c .enum-told2 .given .1) ∙ numeral-one _ _ (number .numeral-of .ensures) refl) refl
+    let there = c .before .before .before in
+    let start = there .before .before .before .before in
+    second-unread (asked (start .args .sets)) (start .args .a .now) (start .args .b .now) (there .before .if1 .left) (there .if2 .left)
+    (c .before .before .numeral-of .ensures) (c .enum-told2 .given .1)
 
 pub with-two-spec : {M : Type 1} → statement M
 with-two-spec =
     tie.close
-    (tie.spec returns returns-2 (λ c κs. search needs) (λ c. search needs) (λ c κs. search needs) (λ c. search needs) returns-3 (λ c. search needs)
-    (λ c. search needs) returns-4 returns-5 returns-6)
+    (tie.spec
+    returns
+    returns-2
+    numeral-of-requires
+    enum-known-x
+    numeral-of-requires-2
+    enum-known-y
+    returns-3
+    enum-told
+    enum-told-2
+    returns-4
+    returns-5
+    returns-6)
