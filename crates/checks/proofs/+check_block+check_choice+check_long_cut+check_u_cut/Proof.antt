@@ -153,47 +153,47 @@ check-choice-exchanged-block-requires t c κs = tt
 
 check-choice-check-run-requires-2 : (t : ℕ) → check-choice-lts.Need-check-run-requires-2 (check-choice-calls t) (check-choice-at t) check-choice.Post
 check-choice-check-run-requires-2 t c κs =
-    let choose = c .before .before .before in
-    let start = choose .before .before in
-    side-call (start .pre .1) (sym (choose .choose .ensures) ∙ c .before .enum-told2 .given .1) (c .exchanged-block .result) (c .exchanged-block .ensures)
+    let chosen = c .before .before .before in
+    let start = chosen .before .before in
+    side-call (start .pre .1) (sym (chosen .choose .ensures) ∙ c .before .enum-told2 .given .1) (c .exchanged-block .result) (c .exchanged-block .ensures)
 
 check-choice-enum-told-3 : (t : ℕ) → check-choice-lts.Need-enum-told-3 (check-choice-calls t) (check-choice-at t) check-choice.Post
 check-choice-enum-told-3 t c = c .match .keys3
 
 check-choice-check-long-cut-requires : (t : ℕ) → check-choice-lts.Need-check-long-cut-requires (check-choice-calls t) (check-choice-at t) check-choice.Post
 check-choice-check-long-cut-requires t c κs =
-    let choose = c .before .before in
-    to-cut (choose .before .before .pre) (choose .choose .ensures) (c .enum-told3 .given .1)
+    let chosen = c .before .before in
+    to-cut (chosen .before .before .pre) (chosen .choose .ensures) (c .enum-told3 .given .1)
 
 check-choice-enum-told-4 : (t : ℕ) → check-choice-lts.Need-enum-told-4 (check-choice-calls t) (check-choice-at t) check-choice.Post
 check-choice-enum-told-4 t c = c .match .keys4
 
 check-choice-check-leaf-requires : (t : ℕ) → check-choice-lts.Need-check-leaf-requires (check-choice-calls t) (check-choice-at t) check-choice.Post
 check-choice-check-leaf-requires t c κs =
-    let told4 = c .before .before in
-    let choose = told4 .before .before in
-    let start = choose .before .before in
+    let told = c .before .before in
+    let chosen = told .before .before in
+    let start = chosen .before .before in
     let room = start .pre .1 in
-    (room, c .before .if1 .taken, u-deep room (sym (choose .choose .ensures) ∙ told4 .enum-told4 .given .1), c .if2 .taken)
+    (room, c .before .if1 .taken, u-deep room (sym (chosen .choose .ensures) ∙ told .enum-told4 .given .1), c .if2 .taken)
 
 check-choice-returns : (t : ℕ) → check-choice-lts.Need-returns (check-choice-calls t) (check-choice-at t) check-choice.Post
 check-choice-returns t c = c .check-leaf .ensures
 
 check-choice-check-u-cut-requires : (t : ℕ) → check-choice-lts.Need-check-u-cut-requires (check-choice-calls t) (check-choice-at t) check-choice.Post
 check-choice-check-u-cut-requires t c κs =
-    let choose = c .before .before .before in
-    to-cut (choose .before .before .pre) (choose .choose .ensures) (c .before .enum-told4 .given .1)
+    let chosen = c .before .before .before in
+    to-cut (chosen .before .before .pre) (chosen .choose .ensures) (c .before .enum-told4 .given .1)
 
 check-choice-returns-2 : (t : ℕ) → check-choice-lts.Need-returns-2 (check-choice-calls t) (check-choice-at t) check-choice.Post
 check-choice-returns-2 t c = c .check-run .ensures
 
 check-choice-returns-3 : (t : ℕ) → check-choice-lts.Need-returns-3 (check-choice-calls t) (check-choice-at t) check-choice.Post
 check-choice-returns-3 t c =
-    let told2 = c .before .before in
-    let choose = told2 .before .before in
-    let start = choose .before .before in
+    let told = c .before .before in
+    let chosen = told .before .before in
+    let start = chosen .before .before in
     c .check-run2 .ensures
-    ∙ side-over (start .pre .1) (sym (choose .choose .ensures) ∙ told2 .enum-told2 .given .1) (least-one (start .args .by-square) (start .args .table .now))
+    ∙ side-over (start .pre .1) (sym (chosen .choose .ensures) ∙ told .enum-told2 .given .1) (least-one (start .args .by-square) (start .args .table .now))
     (start .args .so-far) (c .before .exchanged-block .result) (c .before .exchanged-block .ensures)
 
 check-choice-returns-4 : (t : ℕ) → check-choice-lts.Need-returns-4 (check-choice-calls t) (check-choice-at t) check-choice.Post

@@ -129,12 +129,7 @@ fill-block-fill-choice-requires t c κs = (let m = c .before .before .pre .0 in 
 fill-block-same-length : (t : ℕ) → fill-block-lts.Need-same-length (fill-block-calls t) (fill-block-at t) fill-block.Post
 fill-block-same-length t c = c .before .before .fill-choice .kept .0
 
-fill-block-returns :
-    (t : ℕ) →
-    fill-block-lts.Need-returns
-    (fill-block-calls t)
-    (fill-block-at t)
-    fill-block.Post
+fill-block-returns : (t : ℕ) → fill-block-lts.Need-returns (fill-block-calls t) (fill-block-at t) fill-block.Post
 fill-block-returns t c = c .before .before .fill-choice .ensures
 
 fill-choice-choose-requires : (t : ℕ) → fill-choice-lts.Need-choose-requires (fill-choice-calls t) (fill-choice-at t) fill-choice.Post
@@ -145,9 +140,9 @@ fill-choice-enum-told t c = c .match .keys1
 
 fill-choice-fill-run-requires : (t : ℕ) → fill-choice-lts.Need-fill-run-requires (fill-choice-calls t) (fill-choice-at t) fill-choice.Post
 fill-choice-fill-run-requires t c κs =
-    let choose = c .before .before .before in
-    let start = choose .before .before in
-    (start .pre .1, (sym (choose .choose .ensures) ∙ c .before .enum-told .given .1))
+    let chosen = c .before .before .before in
+    let start = chosen .before .before in
+    (start .pre .1, (sym (chosen .choose .ensures) ∙ c .before .enum-told .given .1))
 
 fill-choice-enum-told-2 : (t : ℕ) → fill-choice-lts.Need-enum-told-2 (fill-choice-calls t) (fill-choice-at t) fill-choice.Post
 fill-choice-enum-told-2 t c = c .match .keys2
@@ -157,18 +152,18 @@ fill-choice-exchanged-block-requires t c κs = tt
 
 fill-choice-fill-run-requires-2 : (t : ℕ) → fill-choice-lts.Need-fill-run-requires-2 (fill-choice-calls t) (fill-choice-at t) fill-choice.Post
 fill-choice-fill-run-requires-2 t c κs =
-    let told2 = c .before .before in
-    let choose = told2 .before .before in
-    let start = choose .before .before in
-    side-call (start .pre .1) (sym (choose .choose .ensures) ∙ told2 .enum-told2 .given .1) (c .exchanged-block .result) (c .exchanged-block .ensures)
+    let told = c .before .before in
+    let chosen = told .before .before in
+    let start = chosen .before .before in
+    side-call (start .pre .1) (sym (chosen .choose .ensures) ∙ told .enum-told2 .given .1) (c .exchanged-block .result) (c .exchanged-block .ensures)
 
 fill-choice-enum-told-3 : (t : ℕ) → fill-choice-lts.Need-enum-told-3 (fill-choice-calls t) (fill-choice-at t) fill-choice.Post
 fill-choice-enum-told-3 t c = c .match .keys3
 
 fill-choice-fill-long-cut-requires : (t : ℕ) → fill-choice-lts.Need-fill-long-cut-requires (fill-choice-calls t) (fill-choice-at t) fill-choice.Post
 fill-choice-fill-long-cut-requires t c κs =
-    let choose = c .before .before .before in
-    to-cut (choose .before .before .pre) (choose .choose .ensures) (c .before .enum-told3 .given .1)
+    let chosen = c .before .before .before in
+    to-cut (chosen .before .before .pre) (chosen .choose .ensures) (c .before .enum-told3 .given .1)
 
 fill-choice-enum-told-4 : (t : ℕ) → fill-choice-lts.Need-enum-told-4 (fill-choice-calls t) (fill-choice-at t) fill-choice.Post
 fill-choice-enum-told-4 t c = c .match .keys4
@@ -176,11 +171,11 @@ fill-choice-enum-told-4 t c = c .match .keys4
 fill-choice-fill-leaf-requires : (t : ℕ) → fill-choice-lts.Need-fill-leaf-requires (fill-choice-calls t) (fill-choice-at t) fill-choice.Post
 fill-choice-fill-leaf-requires t c κs =
     let first-test = c .before .before in
-    let told4 = first-test .before in
-    let choose = told4 .before .before in
-    let start = choose .before .before in
+    let told = first-test .before in
+    let chosen = told .before .before in
+    let start = chosen .before .before in
     let room = start .pre .1 in
-    (room, first-test .if1 .taken, u-deep room (sym (choose .choose .ensures) ∙ told4 .enum-told4 .given .1), c .before .if2 .taken)
+    (room, first-test .if1 .taken, u-deep room (sym (chosen .choose .ensures) ∙ told .enum-told4 .given .1), c .before .if2 .taken)
 
 fill-choice-same-length : (t : ℕ) → fill-choice-lts.Need-same-length (fill-choice-calls t) (fill-choice-at t) fill-choice.Post
 fill-choice-same-length t c = c .before .before .fill-leaf .kept .0
@@ -191,8 +186,8 @@ fill-choice-returns t c = c .before .before .fill-leaf .ensures
 fill-choice-fill-u-cut-requires : (t : ℕ) → fill-choice-lts.Need-fill-u-cut-requires (fill-choice-calls t) (fill-choice-at t) fill-choice.Post
 fill-choice-fill-u-cut-requires t c κs =
     let told = c .before .before in
-    let choose = told .before .before in
-    to-cut (choose .before .before .pre) (choose .choose .ensures) (told .enum-told4 .given .1)
+    let chosen = told .before .before in
+    to-cut (chosen .before .before .pre) (chosen .choose .ensures) (told .enum-told4 .given .1)
 
 fill-choice-same-length-2 : (t : ℕ) → fill-choice-lts.Need-same-length-2 (fill-choice-calls t) (fill-choice-at t) fill-choice.Post
 fill-choice-same-length-2 t c = c .before .before .fill-run .kept .0
@@ -205,16 +200,16 @@ fill-choice-same-length-3 t c = c .before .before .fill-run2 .kept .0
 
 fill-choice-returns-3 : (t : ℕ) → fill-choice-lts.Need-returns-3 (fill-choice-calls t) (fill-choice-at t) fill-choice.Post
 fill-choice-returns-3 t c =
-    let fill-run2 = c .before .before in
-    let exchanged-block = fill-run2 .before in
-    let told2 = exchanged-block .before .before in
-    let choose = told2 .before .before in
-    let start = choose .before .before in
-    let f = start .pre .1 in
-    let is = sym (choose .choose .ensures) ∙ told2 .enum-told2 .given .1 in
-    let r = exchanged-block .exchanged-block in (
-      fill-run2 .fill-run2 .ensures .0 ∙ side-over f is (enter-one (start .args .by-square)) (start .args .table .now) (r .result) (r .ensures),
-      fill-run2 .fill-run2 .ensures .1 ∙ side-count f is (r .result) (r .ensures),
+    let filled = c .before .before in
+    let exchanged = filled .before in
+    let told = exchanged .before .before in
+    let chosen = told .before .before in
+    let start = chosen .before .before in
+    let room = start .pre .1 in
+    let case = sym (chosen .choose .ensures) ∙ told .enum-told2 .given .1 in
+    let side = exchanged .exchanged-block in (
+      filled .fill-run2 .ensures .0 ∙ side-over room case (enter-one (start .args .by-square)) (start .args .table .now) (side .result) (side .ensures),
+      filled .fill-run2 .ensures .1 ∙ side-count room case (side .result) (side .ensures),
     )
 
 fill-choice-same-length-4 : (t : ℕ) → fill-choice-lts.Need-same-length-4 (fill-choice-calls t) (fill-choice-at t) fill-choice.Post

@@ -17,10 +17,10 @@ enter-requires-2 c κs = search needs
 
 returns : tie.Need-returns
 returns c =
-    let enter2 = c .before .before in
-    let enter = enter2 .before .before .before .before in
-    let start = enter .before .before .before in
-    enter2 .enter2 .ensures ∙ ap (λ t. enter-one (start .args .by-square) t (start .args .n + 1) (start .args .q)) (enter .enter .ensures)
+    let second = c .before .before in
+    let first = second .before .before .before .before in
+    let start = first .before .before .before in
+    second .enter2 .ensures ∙ ap (λ t. enter-one (start .args .by-square) t (start .args .n + 1) (start .args .q)) (first .enter .ensures)
 
 pub enter-two-spec : {M : Type 1} → statement M
 enter-two-spec = tie.close

@@ -33,25 +33,25 @@ place-of-requires c κs =
 
 place-of-requires-2 : tie.Need-place-of-requires-2
 place-of-requires-2 c κs =
-    let stepped = c .before .before in
-    let start = stepped .before in
+    let beyond = c .before .before in
+    let start = beyond .before in
     let v = start .args .v in
     let below =
     far-below (start .pre .0) (start .pre .3) v (start .pre .4)
-    (far-is (start .args .k) (start .args .area .w) v (stepped .stepped .ensures) (c .before .stepped2 .ensures)) in
+    (far-is (start .args .k) (start .args .area .w) v (beyond .stepped .ensures) (c .before .stepped2 .ensures)) in
     let fits = mul-le-mul (start .pre .1) (start .pre .2) in
     omega arith
 
 returns : tie.Need-returns
 returns c =
-    let stepped2 = c .before .before in
-    let stepped = stepped2 .before in
-    let start = stepped .before in
+    let up = c .before .before in
+    let beyond = up .before in
+    let start = beyond .before in
     let k = start .args .k in
     let area = start .args .area in
     let v = start .args .v in (
-      c .before .place-of .ensures ∙ near-is k (area .w) v (stepped .stepped .ensures) (stepped2 .stepped2 .ensures),
-      c .place-of2 .ensures ∙ far-is k (area .w) v (stepped .stepped .ensures) (stepped2 .stepped2 .ensures),
+      c .before .place-of .ensures ∙ near-is k (area .w) v (beyond .stepped .ensures) (up .stepped2 .ensures),
+      c .place-of2 .ensures ∙ far-is k (area .w) v (beyond .stepped .ensures) (up .stepped2 .ensures),
     )
 
 pub rung-at-spec : {M : Type 1} → statement M

@@ -11,24 +11,24 @@ use Rattle.lines.proofs.requests.made_of_three.Tie as tie
 returns : tie.Need-returns
 unfolding made-of-three
 returns c =
-    let bytes-of = c .before .before in
-    let first-test = bytes-of .before in
+    let word-bytes = c .before .before in
+    let first-test = word-bytes .before in
     let start = first-test .before .before .before in
     c .two-fields .ensures
-    ∙ ap₂ two-fields (bytes-of .bytes-of .ensures) (c .before .bytes-of2 .ensures)
+    ∙ ap₂ two-fields (word-bytes .bytes-of .ensures) (c .before .bytes-of2 .ensures)
     ∙ sym (rw (eq-eqb (start .args .b .end) (length (start .args .line .now)) (first-test .if1 .taken)))
 
 returns-2 : tie.Need-returns-2
 unfolding made-of-three
 returns-2 c =
-    let bytes-of4 = c .before .before in
-    let bytes-of3 = bytes-of4 .before in
-    let second-test = bytes-of3 .before in
+    let a-bytes = c .before .before in
+    let word-bytes = a-bytes .before in
+    let second-test = word-bytes .before in
     let first-test = second-test .before .before in
     let start = first-test .before .before .before in
     let line = start .args .line .now in
     c .three-fields .ensures
-    ∙ (λ i. three-fields (bytes-of3 .bytes-of3 .ensures i) (bytes-of4 .bytes-of4 .ensures i) (c .before .bytes-of5 .ensures i))
+    ∙ (λ i. three-fields (word-bytes .bytes-of3 .ensures i) (a-bytes .bytes-of4 .ensures i) (c .before .bytes-of5 .ensures i))
     ∙ sym (rw (ne-eqb (start .args .b .end) (length line) (first-test .if1 .left), eq-eqb (start .args .c .end) (length line) (second-test .if2 .taken)))
 
 returns-3 : tie.Need-returns-3

@@ -19,17 +19,17 @@ enum-told c = search needs
 
 returns-2 : tie.Need-returns-2
 returns-2 c =
-    let number = c .before .before .before in
-    let first-test = number .before in
+    let read = c .before .before .before in
+    let first-test = read .before in
     let start = first-test .before .before in
-    one-there (λ i. AskNumber i) (start .args .a .now) (first-test .if1 .left) (number .numeral-of .ensures) (c .before .i .given .1)
+    one-there (λ i. AskNumber i) (start .args .a .now) (first-test .if1 .left) (read .numeral-of .ensures) (c .before .i .given .1)
 
 returns-3 : tie.Need-returns-3
 returns-3 c =
-    let number = c .before .before in
-    let first-test = number .before in
+    let read = c .before .before in
+    let first-test = read .before in
     let start = first-test .before .before in
-    one-there (λ i. AskNumber i) (start .args .a .now) (first-test .if1 .left) (number .numeral-of .ensures) (c .enum-told .given .1)
+    one-there (λ i. AskNumber i) (start .args .a .now) (first-test .if1 .left) (read .numeral-of .ensures) (c .enum-told .given .1)
 
 pub with-one-spec : {M : Type 1} → statement M
 with-one-spec =
