@@ -1,4 +1,4 @@
--- Entries in a table: those of two lists in a row are those of the lists joined, and a block's places lie in its area's table.
+-- Entries in a table: those of two lists in a row are those of the lists joined, and a square's place lies in its area's table.
 use mathlib.Core.Bool.{Bool, true, false, cond}
 use mathlib.Core.List.{List, [], _∷_, _++_, map, map-append}
 use mathlib.Core.Path.{_≡_, refl, sym, ap, _∙_}

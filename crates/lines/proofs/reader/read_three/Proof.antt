@@ -17,10 +17,10 @@ use ghost.Atoms.{Atoms, sem}
 use contract.Lifetimes.{Lfts}
 use contract.Monad.{Fun, fact}
 use contract.Running.{givenOf, tables, tablesOf}
-use types.Kit.{Given, ‵, raw, _⊛_, ⋆, some, later, _$_, _∵_, !, qed, by, move, use1, use2, split, join, pick, rewrite, fsplit, fjoin, suffices, frame, await}
-use types.Kit.{done}
-use types.Run.{look, init, forget, stop, from, load, of-opd, and-then, no-more, assigns, land, returns, enter, alloc1, alloc0, params1, pass1, pass0, free1}
-use types.Run.{free0}
+use types.Kit.{Item, Given, ‵, raw, _⊛_, ⋆, some, later}
+use types.Kit.{_$_, _∵_, !, qed, by, move, use1, use2, split, join, pick, rewrite, fsplit, fjoin, suffices, frame, await, done}
+use types.Run.{look, init, forget, stop, from, load, of-opd, and-then, no-more, assigns, land, returns}
+use types.Run.{enter, alloc1, alloc0, params1, pass1, pass0, free1, free0}
 use sound.WpLaws.{FmC, fmOf, WpFn-mono}
 use denote.RattleType.{RattleType, owns}
 use denote.Laws.{Is, shows}
@@ -198,6 +198,16 @@ module _ {M : Type 1} (𝓤 : URA M) (H : Heap 𝓤) (A : Atoms 𝓤) (W : Given
       ent 𝓤 (ensured 𝓤 H A moved-past.ended (moved-past.clauses 𝓤 H A mem run) (κ, tt) (r, (f, tt)) tt t) (fact 𝓤 ((t .line ≡ r .line) × (t .at ≡ f .next)))
   moved-past-said r f t = exE 𝓤 _ (λ ws. snd∗ 𝓤 (sem 𝓤 H A (lasts moved-past.ended (κ, tt) (r, (f, tt)) ws)) (fact 𝓤 ((t .line ≡ r .line) × (t .at ≡ f .next))))
 
+  -- what comes back from a call of `field_here` and of `moved_past`, by way of the machine value: the token, and the result with what is said of it
+  abbrev field-comes : Reader → Val → Item 𝓤
+  field-comes r x = later (some (λ (f : Field).
+      ((‵ (flft κ q) ⊛ ‵ ftrue) ⊛ ‵ (S.the-row .own f (x ∷ []))) ⊛ raw
+      (ensured 𝓤 H A field-here.ended (field-here.clauses 𝓤 H A mem run) (κ, tt) (r, tt) tt f)))
+
+  abbrev reader-comes : Reader → Field → Val → Item 𝓤
+  reader-comes r f u = later (some (λ (t : Reader).
+      ((‵ (flft κ q) ⊛ ‵ ftrue) ⊛ ‵ (OwnR t u)) ⊛ raw (ensured 𝓤 H A moved-past.ended (moved-past.clauses 𝓤 H A mem run) (κ, tt) (r, (f, tt)) tt t)))
+
   -- the call of `made_of_three`, at the fields' machine values x, y and z
   abbrev to-made : Val → Val → Val → Made 𝓤 H A mem run .Ghost
   to-made x y z = (((κ, tt), (q, tt), tt, (s, (a, (b, (c, tt)))), (v ∷ [], (x ∷ [], (y ∷ [], (z ∷ [], tt))))), tt)
@@ -258,10 +268,7 @@ module _ {M : Type 1} (𝓤 : URA M) (H : Heap 𝓤) (A : Atoms 𝓤) (W : Given
         use2 W (raw (FieldHere 𝓤 H A mem run .pre (to-field-here at₁ u₁))) (goes-field-here at₁ u₁) $
         calls-at ! fm (FieldHere 𝓤 H A mem run) known-field-here (to-field-here at₁ u₁) (and-then ! (load ! (from ! (stop !)) (look ! 11 refl)) (no-more !))
         (λ x.
-        use1 W (later (some (λ (f : Field).
-        ((‵ (flft κ q) ⊛ ‵ ftrue) ⊛ ‵ (S.the-row .own f (x ∷ []))) ⊛ raw
-        (ensured 𝓤 H A field-here.ended (field-here.clauses 𝓤 H A mem run) (κ, tt) (at₁, tt) tt f))))
-        (id⊢ 𝓤 _) $ await ! tt $ pick ! (λ f.
+        use1 W (field-comes at₁ x) (id⊢ 𝓤 _) $ await ! tt $ pick ! (λ f.
         split ! $ move ! (1 ∷ []) $ use1 W (raw (fact 𝓤 (f ≡ a))) (field-here-said at₁ f) $ heard ! (f ≡ a) (λ e. split ! $
         rewrite ! 1 (λ (h : Field). ‵ (S.the-row .own h (x ∷ []))) e refl $ move ! (1 ∷ []) $
         facts ! S.the-row (Is S.the-row) (shows 𝓤 H A S.the-row) a (x ∷ []) (λ is-a. land ! (from ! (stop !)) (init ! 21 refl (typed-field a x is-a)) $
@@ -270,10 +277,7 @@ module _ {M : Type 1} (𝓤 : URA M) (H : Heap 𝓤) (A : Atoms 𝓤) (W : Given
         move ! (1 ∷ 0 ∷ []) $ use2 W (raw (MovedPast 𝓤 H A mem run .pre (to-moved-past at₁ u₁ a x))) (goes-moved-past at₁ u₁ a x is-a) $
         calls-at ! fm (MovedPast 𝓤 H A mem run) known-moved-past (to-moved-past at₁ u₁ a x)
         (and-then ! (load ! (from ! (stop !)) (look ! 8 refl)) (and-then ! (load ! (from ! (stop !)) (look ! 20 refl)) (no-more !))) (λ u₂.
-        use1 W (later (some (λ (r : Reader).
-        ((‵ (flft κ q) ⊛ ‵ ftrue) ⊛ ‵ (OwnR r u₂)) ⊛ raw (ensured 𝓤 H A moved-past.ended (moved-past.clauses 𝓤 H A mem run) (κ, tt) (at₁, (a, tt)) tt r))))
-        (id⊢ 𝓤 _) $
-        await ! tt $ pick ! (λ r.
+        use1 W (reader-comes at₁ a u₂) (id⊢ 𝓤 _) $ await ! tt $ pick ! (λ r.
         split ! $ move ! (1 ∷ []) $ use1 W (raw (fact 𝓤 ((r .line ≡ s) × (r .at ≡ a .next)))) (moved-past-said at₁ a r) $
         heard ! ((r .line ≡ s) × (r .at ≡ a .next)) (λ e. split ! $
         rewrite ! 1 (λ (h : Reader). ‵ (OwnR h u₂)) (λ i. record { line = e .0 i; at = e .1 i }) refl $ move ! (1 ∷ []) $
@@ -284,10 +288,7 @@ module _ {M : Type 1} (𝓤 : URA M) (H : Heap 𝓤) (A : Atoms 𝓤) (W : Given
         use2 W (raw (FieldHere 𝓤 H A mem run .pre (to-field-here at₂ u₂))) (goes-field-here at₂ u₂) $
         calls-at ! fm (FieldHere 𝓤 H A mem run) known-field-here (to-field-here at₂ u₂) (and-then ! (load ! (from ! (stop !)) (look ! 7 refl)) (no-more !))
         (λ y.
-        use1 W (later (some (λ (f : Field).
-        ((‵ (flft κ q) ⊛ ‵ ftrue) ⊛ ‵ (S.the-row .own f (y ∷ []))) ⊛ raw
-        (ensured 𝓤 H A field-here.ended (field-here.clauses 𝓤 H A mem run) (κ, tt) (at₂, tt) tt f))))
-        (id⊢ 𝓤 _) $ await ! tt $ pick ! (λ f.
+        use1 W (field-comes at₂ y) (id⊢ 𝓤 _) $ await ! tt $ pick ! (λ f.
         split ! $ move ! (1 ∷ []) $ use1 W (raw (fact 𝓤 (f ≡ b))) (field-here-said at₂ f) $ heard ! (f ≡ b) (λ e. split ! $
         rewrite ! 1 (λ (h : Field). ‵ (S.the-row .own h (y ∷ []))) e refl $ move ! (1 ∷ []) $
         facts ! S.the-row (Is S.the-row) (shows 𝓤 H A S.the-row) b (y ∷ []) (λ is-b. land ! (from ! (stop !)) (init ! 17 refl (typed-field b y is-b)) $
@@ -296,10 +297,7 @@ module _ {M : Type 1} (𝓤 : URA M) (H : Heap 𝓤) (A : Atoms 𝓤) (W : Given
         move ! (1 ∷ 0 ∷ []) $ use2 W (raw (MovedPast 𝓤 H A mem run .pre (to-moved-past at₂ u₂ b y))) (goes-moved-past at₂ u₂ b y is-b) $
         calls-at ! fm (MovedPast 𝓤 H A mem run) known-moved-past (to-moved-past at₂ u₂ b y)
         (and-then ! (load ! (from ! (stop !)) (look ! 4 refl)) (and-then ! (load ! (from ! (stop !)) (look ! 16 refl)) (no-more !))) (λ u₃.
-        use1 W (later (some (λ (r : Reader).
-        ((‵ (flft κ q) ⊛ ‵ ftrue) ⊛ ‵ (OwnR r u₃)) ⊛ raw (ensured 𝓤 H A moved-past.ended (moved-past.clauses 𝓤 H A mem run) (κ, tt) (at₂, (b, tt)) tt r))))
-        (id⊢ 𝓤 _) $
-        await ! tt $ pick ! (λ r.
+        use1 W (reader-comes at₂ b u₃) (id⊢ 𝓤 _) $ await ! tt $ pick ! (λ r.
         split ! $ move ! (1 ∷ []) $ use1 W (raw (fact 𝓤 ((r .line ≡ s) × (r .at ≡ b .next)))) (moved-past-said at₂ b r) $
         heard ! ((r .line ≡ s) × (r .at ≡ b .next)) (λ e. split ! $
         rewrite ! 1 (λ (h : Reader). ‵ (OwnR h u₃)) (λ i. record { line = e .0 i; at = e .1 i }) refl $ move ! (1 ∷ []) $
@@ -309,10 +307,7 @@ module _ {M : Type 1} (𝓤 : URA M) (H : Heap 𝓤) (A : Atoms 𝓤) (W : Given
         use2 W (raw (FieldHere 𝓤 H A mem run .pre (to-field-here at₃ u₃))) (goes-field-here at₃ u₃) $
         calls-at ! fm (FieldHere 𝓤 H A mem run) known-field-here (to-field-here at₃ u₃) (and-then ! (load ! (from ! (stop !)) (look ! 2 refl)) (no-more !))
         (λ z.
-        use1 W (later (some (λ (f : Field).
-        ((‵ (flft κ q) ⊛ ‵ ftrue) ⊛ ‵ (S.the-row .own f (z ∷ []))) ⊛ raw
-        (ensured 𝓤 H A field-here.ended (field-here.clauses 𝓤 H A mem run) (κ, tt) (at₃, tt) tt f))))
-        (id⊢ 𝓤 _) $ await ! tt $ pick ! (λ f.
+        use1 W (field-comes at₃ z) (id⊢ 𝓤 _) $ await ! tt $ pick ! (λ f.
         split ! $ move ! (1 ∷ []) $ use1 W (raw (fact 𝓤 (f ≡ c))) (field-here-said at₃ f) $ heard ! (f ≡ c) (λ e. split ! $
         rewrite ! 1 (λ (h : Field). ‵ (S.the-row .own h (z ∷ []))) e refl $ move ! (1 ∷ []) $
         facts ! S.the-row (Is S.the-row) (shows 𝓤 H A S.the-row) c (z ∷ []) (λ is-c. land ! (from ! (stop !)) (init ! 12 refl (typed-field c z is-c)) $
