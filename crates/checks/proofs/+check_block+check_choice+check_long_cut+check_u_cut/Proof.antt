@@ -46,49 +46,30 @@ abbrev μ-check-long-cut : Measures 1 check-long-cut-kinds.ps ℕ
 abbrev μ-check-u-cut : Measures 1 check-u-cut-kinds.ps ℕ
 μ-check-u-cut κs a = 3 * (a .1 .0 .a * a .1 .0 .b)
 
+-- what each function is asked: at a measure t, by its own contract, and below t, where another calls it
 abbrev check-block-at : ℕ → In 1 check-block-kinds.ps
-check-block-at t =
-    and 1 check-block-kinds.ps (is 1 check-block-kinds.ps μ-check-block t) check-block.Pre
+check-block-at t = and 1 check-block-kinds.ps (is 1 check-block-kinds.ps μ-check-block t) check-block.Pre
 
 abbrev check-block-below : ℕ → In 1 check-block-kinds.ps
-check-block-below t =
-    and 1 check-block-kinds.ps (falls 1 check-block-kinds.ps _<_ μ-check-block t) check-block.Pre
+check-block-below t = and 1 check-block-kinds.ps (falls 1 check-block-kinds.ps _<_ μ-check-block t) check-block.Pre
 
 abbrev check-choice-at : ℕ → In 1 check-choice-kinds.ps
-check-choice-at t =
-    and 1 check-choice-kinds.ps (is 1 check-choice-kinds.ps μ-check-choice t) check-choice.Pre
+check-choice-at t = and 1 check-choice-kinds.ps (is 1 check-choice-kinds.ps μ-check-choice t) check-choice.Pre
 
 abbrev check-choice-below : ℕ → In 1 check-choice-kinds.ps
-check-choice-below t =
-    and
-    1
-    check-choice-kinds.ps
-    (falls 1 check-choice-kinds.ps _<_ μ-check-choice t)
-    check-choice.Pre
+check-choice-below t = and 1 check-choice-kinds.ps (falls 1 check-choice-kinds.ps _<_ μ-check-choice t) check-choice.Pre
 
 abbrev check-long-cut-at : ℕ → In 1 check-long-cut-kinds.ps
-check-long-cut-at t =
-    and
-    1
-    check-long-cut-kinds.ps
-    (is 1 check-long-cut-kinds.ps μ-check-long-cut t)
-    check-long-cut.Pre
+check-long-cut-at t = and 1 check-long-cut-kinds.ps (is 1 check-long-cut-kinds.ps μ-check-long-cut t) check-long-cut.Pre
 
 abbrev check-long-cut-below : ℕ → In 1 check-long-cut-kinds.ps
-check-long-cut-below t =
-    and
-    1
-    check-long-cut-kinds.ps
-    (falls 1 check-long-cut-kinds.ps _<_ μ-check-long-cut t)
-    check-long-cut.Pre
+check-long-cut-below t = and 1 check-long-cut-kinds.ps (falls 1 check-long-cut-kinds.ps _<_ μ-check-long-cut t) check-long-cut.Pre
 
 abbrev check-u-cut-at : ℕ → In 1 check-u-cut-kinds.ps
-check-u-cut-at t =
-    and 1 check-u-cut-kinds.ps (is 1 check-u-cut-kinds.ps μ-check-u-cut t) check-u-cut.Pre
+check-u-cut-at t = and 1 check-u-cut-kinds.ps (is 1 check-u-cut-kinds.ps μ-check-u-cut t) check-u-cut.Pre
 
 abbrev check-u-cut-below : ℕ → In 1 check-u-cut-kinds.ps
-check-u-cut-below t =
-    and 1 check-u-cut-kinds.ps (falls 1 check-u-cut-kinds.ps _<_ μ-check-u-cut t) check-u-cut.Pre
+check-u-cut-below t = and 1 check-u-cut-kinds.ps (falls 1 check-u-cut-kinds.ps _<_ μ-check-u-cut t) check-u-cut.Pre
 
 -- what is asked and learnt at each call of `check-block`
 abbrev check-block-calls : ℕ → check-block-lts.Claims

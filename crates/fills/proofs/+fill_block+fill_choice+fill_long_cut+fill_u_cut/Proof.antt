@@ -47,41 +47,30 @@ abbrev μ-fill-long-cut : Measures 1 fill-long-cut-kinds.ps ℕ
 abbrev μ-fill-u-cut : Measures 1 fill-u-cut-kinds.ps ℕ
 μ-fill-u-cut κs a = 3 * (a .1 .0 .a * a .1 .0 .b)
 
+-- what each function is asked: at a measure t, by its own contract, and below t, where another calls it
 abbrev fill-block-at : ℕ → In 1 fill-block-kinds.ps
-fill-block-at t =
-    and 1 fill-block-kinds.ps (is 1 fill-block-kinds.ps μ-fill-block t) fill-block.Pre
+fill-block-at t = and 1 fill-block-kinds.ps (is 1 fill-block-kinds.ps μ-fill-block t) fill-block.Pre
 
 abbrev fill-block-below : ℕ → In 1 fill-block-kinds.ps
-fill-block-below t =
-    and 1 fill-block-kinds.ps (falls 1 fill-block-kinds.ps _<_ μ-fill-block t) fill-block.Pre
+fill-block-below t = and 1 fill-block-kinds.ps (falls 1 fill-block-kinds.ps _<_ μ-fill-block t) fill-block.Pre
 
 abbrev fill-choice-at : ℕ → In 1 fill-choice-kinds.ps
-fill-choice-at t =
-    and 1 fill-choice-kinds.ps (is 1 fill-choice-kinds.ps μ-fill-choice t) fill-choice.Pre
+fill-choice-at t = and 1 fill-choice-kinds.ps (is 1 fill-choice-kinds.ps μ-fill-choice t) fill-choice.Pre
 
 abbrev fill-choice-below : ℕ → In 1 fill-choice-kinds.ps
-fill-choice-below t =
-    and 1 fill-choice-kinds.ps (falls 1 fill-choice-kinds.ps _<_ μ-fill-choice t) fill-choice.Pre
+fill-choice-below t = and 1 fill-choice-kinds.ps (falls 1 fill-choice-kinds.ps _<_ μ-fill-choice t) fill-choice.Pre
 
 abbrev fill-long-cut-at : ℕ → In 1 fill-long-cut-kinds.ps
-fill-long-cut-at t =
-    and 1 fill-long-cut-kinds.ps (is 1 fill-long-cut-kinds.ps μ-fill-long-cut t) fill-long-cut.Pre
+fill-long-cut-at t = and 1 fill-long-cut-kinds.ps (is 1 fill-long-cut-kinds.ps μ-fill-long-cut t) fill-long-cut.Pre
 
 abbrev fill-long-cut-below : ℕ → In 1 fill-long-cut-kinds.ps
-fill-long-cut-below t =
-    and
-    1
-    fill-long-cut-kinds.ps
-    (falls 1 fill-long-cut-kinds.ps _<_ μ-fill-long-cut t)
-    fill-long-cut.Pre
+fill-long-cut-below t = and 1 fill-long-cut-kinds.ps (falls 1 fill-long-cut-kinds.ps _<_ μ-fill-long-cut t) fill-long-cut.Pre
 
 abbrev fill-u-cut-at : ℕ → In 1 fill-u-cut-kinds.ps
-fill-u-cut-at t =
-    and 1 fill-u-cut-kinds.ps (is 1 fill-u-cut-kinds.ps μ-fill-u-cut t) fill-u-cut.Pre
+fill-u-cut-at t = and 1 fill-u-cut-kinds.ps (is 1 fill-u-cut-kinds.ps μ-fill-u-cut t) fill-u-cut.Pre
 
 abbrev fill-u-cut-below : ℕ → In 1 fill-u-cut-kinds.ps
-fill-u-cut-below t =
-    and 1 fill-u-cut-kinds.ps (falls 1 fill-u-cut-kinds.ps _<_ μ-fill-u-cut t) fill-u-cut.Pre
+fill-u-cut-below t = and 1 fill-u-cut-kinds.ps (falls 1 fill-u-cut-kinds.ps _<_ μ-fill-u-cut t) fill-u-cut.Pre
 
 -- what is asked and learnt at each call of `fill-block`
 abbrev fill-block-calls : ℕ → fill-block-lts.Claims
