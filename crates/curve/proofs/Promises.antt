@@ -79,7 +79,8 @@ number-back w h n x y k e =
     let there : square x y ≡ s = ap₂ square (ap (figure 0) is) (ap (figure 1) is) in
     let inside = whole-inside w h (all .w-least) (all .h-least) in
     let within = whole-within w h s (square-held w h (whole w h) inside n (was .1)) in
-    square-answered w h (was .0) x y (subst⁻¹ (λ (m : ℕ). m < w) (ap (figure 0) is) (within .run)) (subst⁻¹ (λ (m : ℕ). m < h) (ap (figure 1) is) (within .side))
+    square-answered w h (was .0) x y (subst⁻¹ (λ (m : ℕ). m < w) (ap (figure 0) is) (within .run))
+    (subst⁻¹ (λ (m : ℕ). m < h) (ap (figure 1) is) (within .side))
     ∙ ap₂ (λ a b. answered (a ∷ b ∷ []))
     (ap (number-of (whole w h)) there ∙ number-of-square w h (whole w h) inside n (was .1))
     (ap (blocks-holding (whole w h)) there ∙ sym (ap (figure 2) is))
@@ -120,7 +121,8 @@ square-count-bound w h x y n k e l = count-bound w h n x y k (square-back w h x 
 -- Two answers that meet a promise are one: an answer can be told from its figures.
 square-from : Figures → SquareAnswers.SquareAnswer
 square-from f =
-    cond (eqb (f .refusal) 0) (SquareAnswers.the-variants.Found (figure 0 f) (figure 1 f) (figure 2 f)) (SquareAnswers.the-variants.Refused (named (f .refusal)))
+    cond (eqb (f .refusal) 0) (SquareAnswers.the-variants.Found (figure 0 f) (figure 1 f) (figure 2 f))
+    (SquareAnswers.the-variants.Refused (named (f .refusal)))
 
 square-told : (r : SquareAnswers.SquareAnswer) → square-from (square-figures r) ≡ r
 unfolding square-from

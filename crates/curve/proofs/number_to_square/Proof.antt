@@ -34,12 +34,14 @@ square-at-requires c κs =
 
 returns-3 : tie.Need-returns-3
 returns-3 c =
-    let found = c .before in
-    let judged = found .before .before .before in
+    let second-test = c .before .before in
+    let first-test = second-test .before in
+    let judged = first-test .before in
     let start = judged .before in
-    let ok = is-accepted _ _ (judged .accepts .ensures) (found .before .before .if1 .left) in
+    let area = start .args .area in
+    let ok = is-accepted _ _ (judged .accepts .ensures) (first-test .if1 .left) in
     c .square-unless-deep .ensures
-    ∙ square-found (start .args .area .w) (start .args .area .h) ok (start .args .number) (found .before .if2 .left) (found .square-at .result) (found .square-at .ensures)
+    ∙ square-found (area .w) (area .h) ok (start .args .number) (second-test .if2 .left) (c .before .square-at .result) (c .before .square-at .ensures)
 
 pub number-to-square-spec : {M : Type 1} → statement M
 number-to-square-spec =

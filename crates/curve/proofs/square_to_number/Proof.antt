@@ -34,13 +34,16 @@ number-at-requires c κs =
 
 returns-4 : tie.Need-returns-4
 returns-4 c =
-    let found = c .before in
-    let in-width = found .before .before in
-    let start = in-width .before .before .before in
-    let ok = is-accepted _ _ (in-width .before .before .accepts .ensures) (in-width .before .if1 .left) in
+    let third-test = c .before .before in
+    let in-width = third-test .before in
+    let first-test = in-width .before in
+    let accepts = first-test .before in
+    let start = accepts .before in
+    let area = start .args .area in
+    let ok = is-accepted _ _ (accepts .accepts .ensures) (first-test .if1 .left) in
     c .number-unless-deep .ensures
-    ∙ number-found (start .args .area .w) (start .args .area .h) ok (start .args .x) (start .args .y) (in-width .if2 .left) (found .before .if3 .left) (found .number-at .result)
-    (found .number-at .ensures)
+    ∙ number-found (area .w) (area .h) ok (start .args .x) (start .args .y) (in-width .if2 .left) (third-test .if3 .left) (c .before .number-at .result)
+    (c .before .number-at .ensures)
 
 pub square-to-number-spec : {M : Type 1} → statement M
 square-to-number-spec =

@@ -8,15 +8,6 @@ use Rattle.lines.proofs.requests.with_one.Tie as tie
 returns : tie.Need-returns
 returns c = one-empty (λ i. AskNumber i) (c .before .before .args .a .now) (c .if1 .taken)
 
-numeral-of-requires : tie.Need-numeral-of-requires
-numeral-of-requires c κs = search needs
-
-enum-known-i : tie.Need-enum-known-i
-enum-known-i c = search needs
-
-enum-told : tie.Need-enum-told
-enum-told c = search needs
-
 returns-2 : tie.Need-returns-2
 returns-2 c =
     let read = c .before .before .before in
@@ -33,4 +24,5 @@ returns-3 c =
 
 pub with-one-spec : {M : Type 1} → statement M
 with-one-spec =
-    tie.close (tie.spec returns numeral-of-requires enum-known-i enum-told returns-2 returns-3)
+    tie.close
+    (tie.spec returns (λ c κs. search needs) (λ c. search needs) (λ c. search needs) returns-2 returns-3)

@@ -23,18 +23,6 @@ returns-2 c =
     let start = c .before .before .before .before in
     second-empty (asked (start .args .sets)) (start .args .a .now) (start .args .b .now) (c .if2 .taken)
 
-numeral-of-requires : tie.Need-numeral-of-requires
-numeral-of-requires c κs = search needs
-
-enum-known-x : tie.Need-enum-known-x
-enum-known-x c = search needs
-
-numeral-of-requires-2 : tie.Need-numeral-of-requires-2
-numeral-of-requires-2 c κs = search needs
-
-enum-known-y : tie.Need-enum-known-y
-enum-known-y c = search needs
-
 returns-3 : tie.Need-returns-3
 returns-3 c =
     let y-read = c .before .before in
@@ -44,12 +32,6 @@ returns-3 c =
     sym (rw (c .if3 .taken))
     ∙ two-there (asked (start .args .sets)) (start .args .a .now) (start .args .b .now) (there .before .if1 .left) (there .if2 .left)
     (x-read .before .before .numeral-of .ensures) (x-read .x .given .1) (y-read .before .before .numeral-of2 .ensures) (y-read .y .given .1)
-
-enum-told : tie.Need-enum-told
-enum-told c = search needs
-
-enum-told-2 : tie.Need-enum-told-2
-enum-told-2 c = search needs
 
 returns-4 : tie.Need-returns-4
 returns-4 c =
@@ -79,16 +61,5 @@ returns-6 c =
 pub with-two-spec : {M : Type 1} → statement M
 with-two-spec =
     tie.close
-    (tie.spec
-    returns
-    returns-2
-    numeral-of-requires
-    enum-known-x
-    numeral-of-requires-2
-    enum-known-y
-    returns-3
-    enum-told
-    enum-told-2
-    returns-4
-    returns-5
-    returns-6)
+    (tie.spec returns returns-2 (λ c κs. search needs) (λ c. search needs) (λ c κs. search needs) (λ c. search needs) returns-3 (λ c. search needs)
+    (λ c. search needs) returns-4 returns-5 returns-6)
