@@ -5,6 +5,7 @@ use mathlib.Core.List.{List, [], _∷_}
 use mathlib.Core.Path.{_≡_, refl, ap, _∙_}
 use Prim.Native.Nat.{ℕ, _-_, _*_, _≤_}
 use native.Mathlib.Omega.{arith}
+use Rattle.words.specs.Words.{largest-number}
 use Rattle.terms.specs.declared.Area.{Area}
 use Rattle.terms.specs.declared.Refusal.{Refusal}
 use Rattle.terms.specs.Terms.{accepted, area-refusal, refusal-number, answered, refused}
@@ -24,7 +25,7 @@ unfolding spec.reply
 line-refused clerk line r e = ap (spec.reply-to clerk) e
 
 -- "CELL x y k": the line `N i` under an area, with the figures of number to square, or its refusal; and 7 with no area.
-module _ (i : ℕ) (most : i ≤ 4294967295) where
+module _ (i : ℕ) (most : i ≤ largest-number) where
   pub cell-replied : (area : Area) (x y k : ℕ) → number-to-square (area .w) (area .h) i ≡ answered (x ∷ y ∷ k ∷ [])
       → spec.reply (InForce area) (with-one N i) ≡ spec.says spec.Cell (x ∷ y ∷ k ∷ [])
   unfolding spec.reply
@@ -40,7 +41,7 @@ module _ (i : ℕ) (most : i ≤ 4294967295) where
   number-without-area = ap (spec.reply-to NoArea) (number-spelt i most)
 
 -- "NUMBER i k": the line `S x y`, likewise.
-module _ (x y : ℕ) (most : x ≤ 4294967295) (most′ : y ≤ 4294967295) where
+module _ (x y : ℕ) (most : x ≤ largest-number) (most′ : y ≤ largest-number) where
   pub number-replied : (area : Area) (i k : ℕ) → square-to-number (area .w) (area .h) x y ≡ answered (i ∷ k ∷ [])
       → spec.reply (InForce area) (with-two S x y) ≡ spec.says spec.Number (i ∷ k ∷ [])
   unfolding spec.reply
@@ -65,6 +66,6 @@ module _ (clerk : Clerk) (w h : ℕ) where
       let high = all .h-most in
       ap (spec.reply-to clerk) (area-spelt w h (omega arith) (omega arith)) ∙ rw ok refl
 
-  pub area-refused : w ≤ 4294967295 → h ≤ 4294967295 → accepted w h ≡ false → spec.reply clerk (with-two AREA w h) ≡ spec.says spec.Refused (1 ∷ [])
+  pub area-refused : w ≤ largest-number → h ≤ largest-number → accepted w h ≡ false → spec.reply clerk (with-two AREA w h) ≡ spec.says spec.Refused (1 ∷ [])
   unfolding spec.reply finish-square area-refusal
   area-refused most most′ bad = ap (spec.reply-to clerk) (area-spelt w h most most′) ∙ rw bad refl

@@ -9,7 +9,7 @@ use denote.Enum.Declared.{tagOf}
 use borrow.Author.Tests.{ne-eqb}
 use lib.ListN.{getD}
 use Rattle.terms.specs.declared.Refusal.{Refusal}
-use Rattle.terms.specs.Terms.{accepted, area-refusal, refusal-number, answered, refused}
+use Rattle.terms.specs.Terms.{past-32-bits, accepted, area-refusal, refusal-number, answered, refused}
 use Rattle.terms.proofs.Laws.{squares-limit, refusal-some}
 use Rattle.curve.specs.Lookups.{finish-square}
 use Rattle.lines.specs.declared.Request.{Request}
@@ -37,11 +37,11 @@ pub call-refused : (word : spec.Word) (first : List ℕ) (r : Refusal) (n : ℕ)
 call-refused word first r n = sym (rw (ne-eqb (refusal-number r) 0 (refusal-some r)))
 
 -- a finish square is found under an accepted area, whose squares are a 32-bit number
-pub found-fits : (w h x y : ℕ) → answered (x ∷ y ∷ []) ≡ finish-square w h → w * h < 4294967296
+pub found-fits : (w h x y : ℕ) → answered (x ∷ y ∷ []) ≡ finish-square w h → w * h < past-32-bits
 unfolding finish-square
 found-fits w h x y e = by (accepted w h) refl
   where
-    by : (t : Bool) → accepted w h ≡ t → w * h < 4294967296
+    by : (t : Bool) → accepted w h ≡ t → w * h < past-32-bits
     by true ok = squares-limit w h ok
     by false bad =
         let is : finish-square w h .refusal ≡ refusal-number (area-refusal w h) = rw bad refl in

@@ -7,6 +7,7 @@ use native.Mathlib.Nat.{mul-one, one-mul}
 use native.Mathlib.Omega.{arith}
 use borrow.Author.Tests.{leb-true, leb-false}
 use lib.Dec.{leb}
+use Rattle.terms.specs.Terms.{longest-side}
 use Rattle.division.specs.declared.Choice.the-variants.{StraightRun, StraightSide, LongCut, UCut}
 use Rattle.division.specs.declared.Placed.{Placed}
 use Rattle.division.specs.Division.{Square, square, moved, Block, whole, choice, even-half, First, Second, A, B, C, part, parts, parts-of, square-of}
@@ -23,25 +24,25 @@ use Rattle.division.proofs.Descent.{part-inside, square-in, holding-in, straigh
 use Rattle.division.proofs.Walks.{a-limit, b-limit, product-limit, u-sum, Sums-fit, sums-fit, run-moved, side-moved, steps-along, steps-across}
 use Rattle.descents.specs.Descents.{square-packed, square-unpacked, held, Enters, Descends, descent-packed}
 
-enters : (k : Block) → Inside 65535 65535 k → (before : List Block) (q : Block) (after : List Block) → parts k ≡ before ++ (q ∷ after)
+enters : (k : Block) → Inside longest-side longest-side k → (before : List Block) (q : Block) (after : List Block) → parts k ≡ before ++ (q ∷ after)
     → (i j : ℕ) → total area before + j ≡ i → j < area q → Enters k i q j
 enters k inside before q after e i j sum below =
-    let within = part-inside 65535 65535 k inside before q after e in
+    let within = part-inside longest-side longest-side k inside before q after e in
     let less : Smaller k q = all-right (Smaller k) before (q ∷ after) (subst (All (Smaller k)) e (smaller k (inside .sized))) .0 in
-    let same : square-of k i ≡ square-of q j = ap (square-of k) (sym sum) ∙ square-in 65535 65535 k inside before q after e j below in
-    let held = square-held 65535 65535 q within j below in
+    let same : square-of k i ≡ square-of q j = ap (square-of k) (sym sum) ∙ square-in longest-side longest-side k inside before q after e j below in
+    let held = square-held longest-side longest-side q within j below in
     record {
       inside = within;
       falls = let thirds = less .two-thirds in omega arith;
       below = below;
       square = sym same;
       holding = subst⁻¹ (λ (p : Square). _≡_ {A = ℕ} (blocks-holding k p) (suc (blocks-holding q p))) same
-          (holding-in 65535 65535 k inside before q after e (square-of q j) held);
+          (holding-in longest-side longest-side k inside before q after e (square-of q j) held);
     }
 
 -- the first part of a long cut has the numbers below the even half of a times b, the second the rest
 pub long-enters :
-    (k : Block) (i : ℕ) → Inside 65535 65535 k → i < area k → choice (k .a) (k .b) ≡ LongCut → (second : Bool) → leb (even-half (k .a) * k .b) i ≡ second
+    (k : Block) (i : ℕ) → Inside longest-side longest-side k → i < area k → choice (k .a) (k .b) ≡ LongCut → (second : Bool) → leb (even-half (k .a) * k .b) i ≡ second
     → Enters k i (part (cond second Second First) k) (i - cond second (even-half (k .a)) 0 * k .b)
 unfolding parts-of part
 long-enters k i inside l e true t =
@@ -62,12 +63,12 @@ pub rest-of : (i e b skip : ℕ) → skip ≡ cond (leb (e * b) i) e 0 → skip 
 rest-of i e b skip p = subst⁻¹ (λ (n : ℕ). n * b ≤ i) p (rest-by i e b (leb (e * b) i) refl)
 
 -- the parts of a U cut: A has the numbers below e·m, B the a·(b - e) after them, C the rest
-pub block-sums : (k : Block) → Inside 65535 65535 k → choice (k .a) (k .b) ≡ UCut → (e : ℕ) → e ≡ even-half (k .b) → Sums-fit 0 (k .a) (k .b) e
+pub block-sums : (k : Block) → Inside longest-side longest-side k → choice (k .a) (k .b) ≡ UCut → (e : ℕ) → e ≡ even-half (k .b) → Sums-fit 0 (k .a) (k .b) e
 block-sums k inside c e is =
     let all = product-limit (k .a) (k .b) (a-limit k inside) (b-limit k inside) in
     sums-fit 0 (k .a) (k .b) e (u-lengths k (inside .sized) c .1) is (omega arith)
 
-module _ (k : Block) (i : ℕ) (inside : Inside 65535 65535 k) (l : i < area k) (c : choice (k .a) (k .b) ≡ UCut) where
+module _ (k : Block) (i : ℕ) (inside : Inside longest-side longest-side k) (l : i < area k) (c : choice (k .a) (k .b) ≡ UCut) where
   pub a-enters : i < even-half (k .b) * (k .a / 2) → Enters k i (part A k) i
   unfolding parts-of part
   a-enters m = enters k inside [] (part A k) (part B k ∷ part C k ∷ []) (parts-are k UCut c) i i (omega arith) m
@@ -104,7 +105,7 @@ side-stepped k i there blocks e =
 -- a descent's result in a straight block, and from a part's to its block's
 module _ {k : Block} {i above : ℕ} (r : Descends k i above) where
   alone : parts k ≡ [] → blocks-holding k (square-of k i) ≡ 1
-  alone e = straight-holding k (square-of k i) (r .inside .sized) e (square-held 65535 65535 k (r .inside) i (r .below))
+  alone e = straight-holding k (square-of k i) (r .inside .sized) e (square-held longest-side longest-side k (r .inside) i (r .below))
 
   module _ (c : choice (k .a) (k .b) ≡ StraightRun) where
     pub run-below : i < k .a
@@ -179,7 +180,7 @@ module _ (w h number : ℕ) (r : Descends (whole w h) number 0) where
   unfolding whole
   unpacked-is packed e =
       let s = square-of (whole w h) number in
-      let there = whole-within w h s (square-held 65535 65535 (whole w h) (r .inside) number (r .below)) in
+      let there = whole-within w h s (square-held longest-side longest-side (whole w h) (r .inside) number (r .below)) in
       let right = there .run in
       let up = there .side in
       let wide = a-limit (whole w h) (r .inside) in

@@ -2,6 +2,7 @@
 -- the others by their areas." It returns one number, into which are packed a square and a count of blocks below 256.
 use mathlib.Core.Path.{_≡_}
 use Prim.Native.Nat.{ℕ, suc, _+_, _*_, _/_, _%_, _<_}
+use Rattle.terms.specs.Terms.{longest-side}
 use Rattle.division.specs.Division.{Square, Block, square-of, blocks-holding}
 use Rattle.division.specs.Division.Inside.{Inside}
 use Rattle.descents.specs.declared.Held.{Held}
@@ -18,7 +19,7 @@ held s blocks = record { x = s .x; y = s .y; blocks = blocks }
 
 -- One step down from a block's number i to number j of a smaller block in it: the same square, and one block more that holds it.
 pub record Enters (k : Block) (i : ℕ) (q : Block) (j : ℕ) : Type 0 where
-  pub inside : Inside 65535 65535 q
+  pub inside : Inside longest-side longest-side q
   pub falls : q .a * q .b < k .a * k .b
   pub below : j < q .a * q .b
   pub square : square-of q j ≡ square-of k i
@@ -26,7 +27,7 @@ pub record Enters (k : Block) (i : ℕ) (q : Block) (j : ℕ) : Type 0 where
 
 -- A descent into a block that `above` blocks hold, by its number i.
 pub record Descends (k : Block) (i above : ℕ) : Type 0 where
-  pub inside : Inside 65535 65535 k
+  pub inside : Inside longest-side longest-side k
   pub below : i < k .a * k .b
   pub count : above + blocks-holding k (square-of k i) < 256
 

@@ -4,6 +4,7 @@ use division::Placed;
 ghost use mathlib.Core.Path.{_≡_};
 ghost use mathlib.Core.Bool.{cond};
 ghost use Prim.Native.Nat.{_*_, _<_};
+ghost use Rattle.terms.specs.Terms.{longest-side};
 ghost use Rattle.division.specs.declared.Choice.the-variants.{LongCut, UCut};
 ghost use Rattle.division.specs.Division.{square, moved, whole, choice, square-of, blocks-holding};
 ghost use Rattle.division.specs.Division.Inside.{Inside};
@@ -44,7 +45,7 @@ struct Below {
 
 // The part of a long cut that has the number i, with the rest of it.
 fn long_with(k: Placed, i: u32) -> Below
-    requires { ⌜ Inside 65535 65535 (block k) × (i < k .a * k .b) × (choice (k .a) (k .b) ≡ LongCut) ⌝ }
+    requires { ⌜ Inside longest-side longest-side (block k) × (i < k .a * k .b) × (choice (k .a) (k .b) ≡ LongCut) ⌝ }
     ensures { λ r. ⌜ Enters (block k) i (block (r .part)) (r .i) ⌝ }
 {
     let e = division::even_half(k.a);
@@ -58,7 +59,7 @@ fn long_with(k: Placed, i: u32) -> Below
 
 // The part of a U cut that has the number i, with the rest of it.
 fn u_with(k: Placed, i: u32) -> Below
-    requires { ⌜ Inside 65535 65535 (block k) × (i < k .a * k .b) × (choice (k .a) (k .b) ≡ UCut) ⌝ }
+    requires { ⌜ Inside longest-side longest-side (block k) × (i < k .a * k .b) × (choice (k .a) (k .b) ≡ UCut) ⌝ }
     ensures { λ r. ⌜ Enters (block k) i (block (r .part)) (r .i) ⌝ }
 {
     let e = division::even_half(k.b);

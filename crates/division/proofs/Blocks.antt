@@ -11,6 +11,7 @@ use native.Mathlib.Numerals.{one-add}
 use native.Mathlib.Omega.{arith}
 use lib.Dec.{lit<, lit≤}
 use lib.ListN.{length}
+use Rattle.terms.specs.Terms.{longest-side}
 use Rattle.division.specs.Division.{Square, Block, whole, parts, blocks, holds, one, count, blocks-holding}
 use Rattle.division.specs.Division.Inside.{Sized, x-y, Inside}
 use Rattle.division.proofs.Rules.{All, All-map, Smaller, smaller, blocks-rule}
@@ -209,7 +210,7 @@ pub demand-3 : (w h : ℕ) → 1 ≤ w → 1 ≤ h → (p : Square) → 1 < bloc
 unfolding whole
 demand-3 w h a b p = bounded w h (whole w h) (whole-inside w h a b) p .bound
 
-pub at-most-54 : (w h : ℕ) → 1 ≤ w → w ≤ 65535 → 1 ≤ h → h ≤ 65535 → (p : Square) → blocks-holding (whole w h) p ≤ 54
+pub at-most-54 : (w h : ℕ) → 1 ≤ w → w ≤ longest-side → 1 ≤ h → h ≤ longest-side → (p : Square) → blocks-holding (whole w h) p ≤ 54
 unfolding whole
 at-most-54 w h a w-limit b h-limit p =
-    held-by-at-most (65535 * 65535) 54 (lit< tt) (whole w h) p (bounded w h (whole w h) (whole-inside w h a b) p) (lit≤ tt) (mul-le-mul w-limit h-limit)
+    held-by-at-most (longest-side * longest-side) 54 (lit< tt) (whole w h) p (bounded w h (whole w h) (whole-inside w h a b) p) (lit≤ tt) (mul-le-mul w-limit h-limit)

@@ -7,6 +7,7 @@ use native.Mathlib.Nat.{add-zero, sub-zero, mul-le-mul}
 use native.Mathlib.Omega.{arith}
 use borrow.Author.Tests.{lt-ltb, le-ltb, eqb-true, eqb-false, ltb-false}
 use lib.Dec.{ltb, eqb}
+use Rattle.terms.specs.Terms.{longest-side, past-32-bits}
 use Rattle.division.specs.declared.Placed.{Placed}
 use Rattle.division.specs.declared.Spot.{Spot}
 use Rattle.division.specs.Division.{Square, square, Direction, +x, +y, -x, -y, Block, even-half, First, Second, A, B, C, part, moved, against}
@@ -30,21 +31,21 @@ half-large L l = rw (lt-ltb 2 L l) (half-by L (eqb (L / 2 % 2) 1) refl)
 
 -- steps of less than the run's length, and of less than the side's, stay within the area
 steps-by : (along across : ℕ) (turned back : Bool) (a n : ℕ)
-    → Room 65535 65535 (direction turned back) a (cond turned (square across along) (square along across)) → n < a → Steps along n back
+    → Room longest-side longest-side (direction turned back) a (cond turned (square across along) (square along across)) → n < a → Steps along n back
 steps-by along across false false a n r l = omega arith
 steps-by along across false true a n r l = omega arith
 steps-by along across true false a n r l = omega arith
 steps-by along across true true a n r l = omega arith
 
-pub steps-along : (k : Placed) → Inside 65535 65535 (block k) → (n : ℕ) → n < k .a → Steps (k .along) n (k .back)
+pub steps-along : (k : Placed) → Inside longest-side longest-side (block k) → (n : ℕ) → n < k .a → Steps (k .along) n (k .back)
 steps-along k i n l = steps-by (k .along) (k .across) (k .turned) (k .back) (k .a) n (i .run) l
 
 steps-across-by : (along across : ℕ) (turned back : Bool) (b n : ℕ)
-    → Room 65535 65535 (direction (not turned) back) b (cond turned (square across along) (square along across)) → n < b → Steps across n back
+    → Room longest-side longest-side (direction (not turned) back) b (cond turned (square across along) (square along across)) → n < b → Steps across n back
 steps-across-by along across false back b n r l = steps-by across along true back b n r l
 steps-across-by along across true back b n r l = steps-by across along false back b n r l
 
-pub steps-across : (k : Placed) → Inside 65535 65535 (block k) → (n : ℕ) → n < k .b → Steps (k .across) n (k .back)
+pub steps-across : (k : Placed) → Inside longest-side longest-side (block k) → (n : ℕ) → n < k .b → Steps (k .across) n (k .back)
 steps-across k i n l = steps-across-by (k .along) (k .across) (k .turned) (k .back) (k .b) n (i .side) l
 
 -- the parts of a placed block, each by the two bits of its directions
@@ -169,21 +170,21 @@ inside-grow w h w′ h′ l m k i =
     }
 
 -- a block within 65,535 by 65,535 has lengths up to that
-room-limit : (d : Direction) (n : ℕ) (s : Square) → Room 65535 65535 d n s → n ≤ 65535
+room-limit : (d : Direction) (n : ℕ) (s : Square) → Room longest-side longest-side d n s → n ≤ longest-side
 room-limit +x n s r = omega arith
 room-limit +y n s r = omega arith
 room-limit -x n s r = omega arith
 room-limit -y n s r = omega arith
 
-pub a-limit : (k : Block) → Inside 65535 65535 k → k .a ≤ 65535
+pub a-limit : (k : Block) → Inside longest-side longest-side k → k .a ≤ longest-side
 a-limit k i = room-limit (k .run) (k .a) (k .start) (i .run)
 
-pub b-limit : (k : Block) → Inside 65535 65535 k → k .b ≤ 65535
+pub b-limit : (k : Block) → Inside longest-side longest-side k → k .b ≤ longest-side
 b-limit k i = room-limit (k .side) (k .b) (k .start) (i .side)
 
 -- the squares of lengths up to 65,535 are a 32-bit number
-pub product-limit : (a b : ℕ) → a ≤ 65535 → b ≤ 65535 → a * b < 4294967296
-product-limit a b l m = let p : a * b ≤ 65535 * 65535 = mul-le-mul l m in omega arith
+pub product-limit : (a b : ℕ) → a ≤ longest-side → b ≤ longest-side → a * b < past-32-bits
+product-limit a b l m = let p : a * b ≤ longest-side * longest-side = mul-le-mul l m in omega arith
 
 -- the parts of a U cut add up to the block
 pub u-sum : (a b e : ℕ) → 2 ≤ b → e ≡ even-half b → e * (a / 2) + (a * (b - e) + (e * (a - a / 2) + 0)) ≡ a * b
@@ -192,12 +193,12 @@ u-sum a b e two is = let half = halves b two in u-areas e (a / 2) a b (omega ari
 -- the sums on the way are 32-bit numbers, where `before` numbers and the block's are
 pub record Sums-fit (before a b e : ℕ) : Type 0 where
   pub half : e ≤ b
-  pub in-a : e * (a / 2) < 4294967296
-  pub in-b : a * (b - e) < 4294967296
-  pub to-b : before + e * (a / 2) < 4294967296
-  pub to-c : before + e * (a / 2) + a * (b - e) < 4294967296
+  pub in-a : e * (a / 2) < past-32-bits
+  pub in-b : a * (b - e) < past-32-bits
+  pub to-b : before + e * (a / 2) < past-32-bits
+  pub to-c : before + e * (a / 2) + a * (b - e) < past-32-bits
 
-pub sums-fit : (before a b e : ℕ) → 2 ≤ b → e ≡ even-half b → before + a * b < 4294967296 → Sums-fit before a b e
+pub sums-fit : (before a b e : ℕ) → 2 ≤ b → e ≡ even-half b → before + a * b < past-32-bits → Sums-fit before a b e
 sums-fit before a b e two is room =
     let half = halves b two in
     let all = u-sum a b e two is in

@@ -2,6 +2,7 @@
 -- one of its squares. They render no sentence of document 01.
 use mathlib.Core.Bool.{Bool, true, false, not, cond}
 use Prim.Native.Nat.{ℕ, _+_, _-_, _/_, _≤_}
+use Rattle.terms.specs.Terms.{longest-side}
 use Rattle.division.specs.declared.Placed.{Placed}
 use Rattle.division.specs.declared.Spot.{Spot}
 use Rattle.division.specs.Division.{square, Direction, +x, +y, -x, -y, Block, even-half, Part, First, Second, A, B, C}
@@ -34,7 +35,7 @@ stepped-to at n back = cond back (at - n) (at + n)
 
 abbrev pub Steps : ℕ → ℕ → Bool → Type 0
 Steps at n true = n ≤ at
-Steps at n false = at + n ≤ 65535
+Steps at n false = at + n ≤ longest-side
 
 -- A block's square at (u, v) as one of its parts has it.
 abbrev pub seen-in : Part → Spot → Spot

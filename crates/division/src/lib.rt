@@ -7,6 +7,7 @@ ghost use mathlib.Core.Bool.{cond};
 ghost use mathlib.Core.Path.{_≡_};
 ghost use Prim.Native.Nat.{_≤_, _<_};
 ghost use lib.Dec.{ltb};
+ghost use Rattle.terms.specs.Terms.{longest-side};
 ghost use Rattle.division.specs.declared.Choice.the-variants.{LongCut, UCut};
 ghost use Rattle.division.specs.Division.{choice, even-half, Part, First, Second, B, C, part};
 ghost use Rattle.division.specs.Division.Inside.{Inside};
@@ -22,7 +23,7 @@ pub enum Choice {
 
 // The case of a block with lengths a and b.
 pub fn choose(a: u32, b: u32) -> Choice
-    requires { ⌜ (a ≤ 65535) × (b ≤ 65535) ⌝ }
+    requires { ⌜ (a ≤ longest-side) × (b ≤ longest-side) ⌝ }
     ensures { λ r. ⌜ r ≡ choice a b ⌝ }
 {
     if b == 1 {
@@ -76,7 +77,7 @@ pub struct Placed {
 
 // The long cut's second part, or its first.
 pub fn long_part(k: Placed, second: bool) -> Placed
-    requires { ⌜ Inside 65535 65535 (block k) × (choice (k .a) (k .b) ≡ LongCut) ⌝ }
+    requires { ⌜ Inside longest-side longest-side (block k) × (choice (k .a) (k .b) ≡ LongCut) ⌝ }
     ensures { λ r. ⌜ block r ≡ part (cond second Second First) (block k) ⌝ }
 {
     let e = even_half(k.a);
@@ -93,7 +94,7 @@ pub fn long_part(k: Placed, second: bool) -> Placed
 
 // The U cut's part A: up the side, over the first half of the run.
 pub fn part_a(k: Placed) -> Placed
-    requires { ⌜ Inside 65535 65535 (block k) × (choice (k .a) (k .b) ≡ UCut) ⌝ }
+    requires { ⌜ Inside longest-side longest-side (block k) × (choice (k .a) (k .b) ≡ UCut) ⌝ }
     ensures { λ r. ⌜ block r ≡ part Part.A (block k) ⌝ }
 {
     Placed {
@@ -108,7 +109,7 @@ pub fn part_a(k: Placed) -> Placed
 
 // The U cut's part B: along the whole run, above A and C.
 pub fn part_b(k: Placed) -> Placed
-    requires { ⌜ Inside 65535 65535 (block k) × (choice (k .a) (k .b) ≡ UCut) ⌝ }
+    requires { ⌜ Inside longest-side longest-side (block k) × (choice (k .a) (k .b) ≡ UCut) ⌝ }
     ensures { λ r. ⌜ block r ≡ part B (block k) ⌝ }
 {
     let e = even_half(k.b);
@@ -124,7 +125,7 @@ pub fn part_b(k: Placed) -> Placed
 
 // The U cut's part C: down the side again, over the rest of the run, from its far corner.
 pub fn part_c(k: Placed) -> Placed
-    requires { ⌜ Inside 65535 65535 (block k) × (choice (k .a) (k .b) ≡ UCut) ⌝ }
+    requires { ⌜ Inside longest-side longest-side (block k) × (choice (k .a) (k .b) ≡ UCut) ⌝ }
     ensures { λ r. ⌜ block r ≡ part C (block k) ⌝ }
 {
     let e = even_half(k.b);

@@ -9,13 +9,14 @@ use native.Mathlib.Omega.{arith}
 use borrow.Author.Tests.{ltb-true, ltb-false, eq-eqb, ne-eqb, eqb-false}
 use lib.Dec.{ltb, eqb}
 use lib.ListN.{length, getD}
-use Rattle.leaves.specs.Walk.{over, wrong-at, wrong-in, least-one}
+use Rattle.terms.specs.Terms.{past-32-bits}
+use Rattle.leaves.specs.Walk.{over, wrong-packed, wrong-unpacked, least-one}
 
--- what is packed into a word is what is taken out of it
-pub taken-out : (place due : ℕ) → due < 4294967296 → wrong-in (wrong-at place due) ≡ record { place = place; due = due }
+-- what was packed is what is taken out again
+pub taken-out : (place due : ℕ) → due < past-32-bits → wrong-unpacked (wrong-packed place due) ≡ record { place = place; due = due }
 taken-out place due l =
-    let place-is : wrong-at place due / 4294967296 ≡ place = omega arith in
-    let due-is : wrong-at place due % 4294967296 ≡ due = omega arith in
+    let place-is : wrong-packed place due / past-32-bits ≡ place = omega arith in
+    let due-is : wrong-packed place due % past-32-bits ≡ due = omega arith in
     λ i. record { place = place-is i; due = due-is i }
 
 -- one look, as the code has it
@@ -23,21 +24,21 @@ module _ (by-square : Bool) (t : List ℕ) (least n p i v : ℕ) (there : i ≡ 
   pub right-one : getD t i 0 ≡ v → least ≡ least-one by-square t least n p
   right-one same = rw (eq-eqb (getD t (cond by-square p n) 0) (cond by-square n p) (ap (λ j. getD t j 0) (sym there) ∙ same ∙ due))
 
-  wrong-one : (getD t i 0 ≡ v → ⊥) → min least (wrong-at i v) ≡ least-one by-square t least n p
+  wrong-one : (getD t i 0 ≡ v → ⊥) → min least (wrong-packed i v) ≡ least-one by-square t least n p
   wrong-one other =
-      ap₂ (λ j u. min least (wrong-at j u)) there due
+      ap₂ (λ j u. min least (wrong-packed j u)) there due
       ∙ sym (rw (ne-eqb (getD t (cond by-square p n) 0) (cond by-square n p) (λ same. other (ap (λ j. getD t j 0) there ∙ same ∙ sym due))))
 
-  pub lower-one : (getD t i 0 ≡ v → ⊥) → (word : ℕ) → word ≡ wrong-at i v → word < least → word ≡ least-one by-square t least n p
-  lower-one other word is l = omega arith ∙ wrong-one other
+  pub lower-one : (getD t i 0 ≡ v → ⊥) → (packed : ℕ) → packed ≡ wrong-packed i v → packed < least → packed ≡ least-one by-square t least n p
+  lower-one other packed is l = omega arith ∙ wrong-one other
 
-  pub higher-one : (getD t i 0 ≡ v → ⊥) → (word : ℕ) → word ≡ wrong-at i v → least ≤ word → least ≡ least-one by-square t least n p
-  higher-one other word is l = omega arith ∙ wrong-one other
+  pub higher-one : (getD t i 0 ≡ v → ⊥) → (packed : ℕ) → packed ≡ wrong-packed i v → least ≤ packed → least ≡ least-one by-square t least n p
+  higher-one other packed is l = omega arith ∙ wrong-one other
 
 module _ (by-square : Bool) (t : List ℕ) where
   -- the place that a look at square number n, at place p, is at, and whether it is right
   abbrev looked : (n p : ℕ) → ℕ
-  looked n p = wrong-at (cond by-square p n) (cond by-square n p)
+  looked n p = wrong-packed (cond by-square p n) (cond by-square n p)
 
   abbrev Right : (n p : ℕ) → Type 0
   Right n p = getD t (cond by-square p n) 0 ≡ cond by-square n p

@@ -6,6 +6,7 @@ use Prim.Native.Nat.{ℕ, suc, _+_, _*_, _≤_, _<_}
 use native.Mathlib.Nat.{add-zero, add-suc, suc-add, suc-mul, mul-comm, mul-le-mul-right}
 use native.Mathlib.Omega.{arith}
 use lib.ListN.{length, length-set, length-map}
+use Rattle.terms.specs.Terms.{longest-side, past-32-bits}
 use Rattle.division.specs.Division.{Square, Block, Direction, moved, row}
 use Rattle.division.specs.Division.Inside.{Inside}
 use Rattle.division.proofs.Once.{row-length}
@@ -53,8 +54,8 @@ place-below w h s l =
     omega (arith, mul-comm w h)
 
 -- What a walk knows of its block.
-pub largest : {w h : ℕ} {t : List ℕ} {k : Block} {at : ℕ} → Fits w h t k at → Inside 65535 65535 k
-largest {w} {h} {k = k} f = inside-grow w h 65535 65535 (f .w-limit) (f .h-limit) k (f .inside)
+pub largest : {w h : ℕ} {t : List ℕ} {k : Block} {at : ℕ} → Fits w h t k at → Inside longest-side longest-side k
+largest {w} {h} {k = k} f = inside-grow w h longest-side longest-side (f .w-limit) (f .h-limit) k (f .inside)
 
-pub squares-fit : {w h : ℕ} {t : List ℕ} {k : Block} {at : ℕ} → Fits w h t k at → w * h < 4294967296
+pub squares-fit : {w h : ℕ} {t : List ℕ} {k : Block} {at : ℕ} → Fits w h t k at → w * h < past-32-bits
 squares-fit {w} {h} f = product-limit w h (f .w-limit) (f .h-limit)

@@ -6,6 +6,7 @@ use Prim.Native.Nat.{ℕ, _+_, _*_, _≤_, _<_}
 use native.Mathlib.Numerals.{add-one, add-two}
 use native.Mathlib.Omega.{arith}
 use lib.ListN.{length}
+use Rattle.terms.specs.Terms.{longest-side, past-32-bits}
 use Rattle.division.specs.declared.Placed.{Placed}
 use Rattle.division.specs.Division.{Square, square, Block, whole, moved, curve, blocks}
 use Rattle.division.specs.Division.Inside.{Inside}
@@ -63,7 +64,7 @@ Rung w k v p q = (p ≡ place w (near k v)) × (q ≡ place w (far k v))
 
 -- Two numbers from n on fit, and lie in a table of a size as their squares' places do.
 abbrev Two-fit : (n size p q : ℕ) → Type 0
-Two-fit n size p q = (n + 1 < 4294967296) × (n + 1 < size) × (p < size) × (q < size)
+Two-fit n size p q = (n + 1 < past-32-bits) × (n + 1 < size) × (p < size) × (q < size)
 
 module _ {w h : ℕ} {t : List ℕ} {k : Block} {at : ℕ} (leaf : Leaf w h t k at) where
   deep-three : (k .b ≡ 2 → ⊥) → k .b ≡ 3
@@ -73,14 +74,14 @@ module _ {w h : ℕ} {t : List ℕ} {k : Block} {at : ℕ} (leaf : Leaf w h t k 
       omega arith
 
   -- what a rung's code asks: of the lower two, and of the third
-  pub rung-asks : {v : ℕ} → v ≤ 1 → Inside w h k × (w ≤ 65535) × (h ≤ 65535) × (k .a ≡ 2) × (v < k .b)
+  pub rung-asks : {v : ℕ} → v ≤ 1 → Inside w h k × (w ≤ longest-side) × (h ≤ longest-side) × (k .a ≡ 2) × (v < k .b)
   rung-asks l = let least = leaf .2 in (leaf .0 .inside, leaf .0 .w-limit, leaf .0 .h-limit, leaf .1, omega arith)
 
-  pub high-asks : (k .b ≡ 2 → ⊥) → Inside w h k × (w ≤ 65535) × (h ≤ 65535) × (k .a ≡ 2) × (2 < k .b)
+  pub high-asks : (k .b ≡ 2 → ⊥) → Inside w h k × (w ≤ longest-side) × (h ≤ longest-side) × (k .a ≡ 2) × (2 < k .b)
   high-asks other = let three = deep-three other in (leaf .0 .inside, leaf .0 .w-limit, leaf .0 .h-limit, leaf .1, omega arith)
 
   -- a number of the block fits
-  pub leaf-number : (n : ℕ) → n ≤ 4 → at + n < 4294967296
+  pub leaf-number : (n : ℕ) → n ≤ 4 → at + n < past-32-bits
   leaf-number n l =
       let all : k .a * k .b ≡ 2 * k .b = ap (λ m. m * k .b) (leaf .1) in
       let least = leaf .2 in

@@ -5,6 +5,7 @@ use Prim.Native.Nat.{ℕ, _+_, _-_, _*_, _/_, _≤_, _<_}
 use native.Mathlib.Nat.{mul-comm, mul-le-mul, mul-le-mul-right}
 use native.Mathlib.Omega.{arith}
 use lib.ListN.{length, length-map}
+use Rattle.terms.specs.Terms.{longest-side, past-32-bits}
 use Rattle.division.specs.declared.Choice.{Choice}
 use Rattle.division.specs.declared.Choice.the-variants.{StraightRun, StraightSide, LongCut, UCut}
 use Rattle.division.specs.declared.Placed.{Placed}
@@ -32,7 +33,7 @@ to-cut asked chosen is = let measure = asked .0 in (omega arith, (asked .1, sym 
 
 -- what the code of a part asks
 pub part-asks : {w h : ℕ} {t : List ℕ} {k : Block} {at m : ℕ} {case : Choice} → Cut case w h t k at m
-    → Inside 65535 65535 k × (choice (k .a) (k .b) ≡ case)
+    → Inside longest-side longest-side k × (choice (k .a) (k .b) ≡ case)
 part-asks cut = (largest (cut .1 .0), cut .1 .1)
 
 -- one call on a part: its measure is less, and it has its room
@@ -80,7 +81,7 @@ module _ {w h : ℕ} {t : List ℕ} {k : Block} {at m : ℕ} (cut : Cut LongCut 
       call cut (part First k ∷ []) (part Second k) [] (parts-are k LongCut (cut .1 .1)) t′ same (at + e * k .b)
       (rw half (omega arith)) r there
 
-  pub second-number : (e * k .b < 4294967296) × (at + e * k .b < 4294967296)
+  pub second-number : (e * k .b < past-32-bits) × (at + e * k .b < past-32-bits)
   second-number =
       let lengths = long-lengths k (cut .1 .0 .inside .sized) (cut .1 .1) in
       let less = halves (k .a) (lengths .0) in

@@ -8,6 +8,7 @@ use native.Mathlib.Nat.{mul-one}
 use native.Mathlib.Numerals.{add-one}
 use native.Mathlib.Omega.{arith}
 use lib.ListN.{length}
+use Rattle.terms.specs.Terms.{past-32-bits}
 use Rattle.division.specs.declared.Choice.the-variants.{StraightRun}
 use Rattle.division.specs.declared.Placed.{Placed}
 use Rattle.division.specs.Division.{Square, square, choice, moved, row, blocks}
@@ -39,7 +40,7 @@ module _ (k : Placed) {w h : ℕ} {t : List ℕ} {at : ℕ} (run : Run w h t k a
         let room = run .0 .room in
         omega arith
 
-    pub run-number : at + i < 4294967296
+    pub run-number : at + i < past-32-bits
     run-number =
         let below = in-area in
         let all = squares-fit (run .0) in
@@ -58,7 +59,7 @@ module _ (k : Placed) {w h : ℕ} {t : List ℕ} {at : ℕ} (run : Run w h t k a
           ap (place w)
           (ap (λ n. cond (k .turned) (square (k .across) n) (square n (k .across))) is ∙ run-moved (k .along) (k .across) (k .turned) (k .back) i)
 
-      pub run-place-fits : place w (cond (k .turned) (square (k .across) there) (square there (k .across))) < 4294967296
+      pub run-place-fits : place w (cond (k .turned) (square (k .across) there) (square there (k .across))) < past-32-bits
       run-place-fits =
           let same = run-place in
           let below = run-below in

@@ -6,6 +6,7 @@ use mathlib.Core.Path.{_≡_}
 use Prim.Native.Nat.{ℕ, suc, _+_, _*_, _/_, _%_, _≤_, min}
 use lib.Dec.{eqb}
 use lib.ListN.{length, getD, set}
+use Rattle.terms.specs.Terms.{longest-side, past-32-bits}
 use Rattle.division.specs.Division.{Square, Block, moved, curve}
 use Rattle.division.specs.Division.Inside.{Inside}
 use Rattle.leaves.specs.declared.Wrong.{Wrong}
@@ -30,24 +31,24 @@ abbrev pub filled-with : (by-square : Bool) (w : ℕ) → List ℕ → Block →
 filled-with by-square w t k at = over-block (enter-one by-square) t w k at
 
 -- A wrong place and the value due there as one number: of two, the lesser place has the lesser number.
-abbrev pub wrong-at : (place due : ℕ) → ℕ
-wrong-at place due = place * 4294967296 + due
+abbrev pub wrong-packed : (place due : ℕ) → ℕ
+wrong-packed place due = place * past-32-bits + due
 
-abbrev pub wrong-in : (word : ℕ) → Wrong
-wrong-in word = record { place = word / 4294967296; due = word % 4294967296 }
+abbrev pub wrong-unpacked : (packed : ℕ) → Wrong
+wrong-unpacked packed = record { place = packed / past-32-bits; due = packed % past-32-bits }
 
 -- The least wrong place so far, with square number n, at place p, looked at: by square n is due at p, else p at n. So, with a block's squares.
 abbrev pub least-one : (by-square : Bool) → List ℕ → (least n p : ℕ) → ℕ
 least-one by-square t least n p =
-    cond (eqb (getD t (cond by-square p n) 0) (cond by-square n p)) least (min least (wrong-at (cond by-square p n) (cond by-square n p)))
+    cond (eqb (getD t (cond by-square p n) 0) (cond by-square n p)) least (min least (wrong-packed (cond by-square p n) (cond by-square n p)))
 
 abbrev pub checked : (by-square : Bool) (w : ℕ) → List ℕ → Block → (at least : ℕ) → ℕ
 checked by-square w t k at least = over-block (least-one by-square t) least w k at
 
 -- A block that lies within the area of the table, with room for its squares' numbers from `at` on.
 pub record Fits (w h : ℕ) (t : List ℕ) (k : Block) (at : ℕ) : Type 0 where
-  pub w-limit : w ≤ 65535
-  pub h-limit : h ≤ 65535
+  pub w-limit : w ≤ longest-side
+  pub h-limit : h ≤ longest-side
   pub inside : Inside w h k
   pub size : length t ≡ w * h
   pub room : at + k .a * k .b ≤ w * h

@@ -5,15 +5,16 @@ ghost use mathlib.Core.Bool.{cond};
 ghost use mathlib.Core.Path.{_≡_};
 ghost use Prim.Native.Nat.{_+_, _≤_, _<_};
 ghost use lib.ListN.{length};
+ghost use Rattle.terms.specs.Terms.{longest-side, past-32-bits};
 ghost use Rattle.division.specs.declared.Choice.the-variants.{StraightRun};
 ghost use Rattle.division.specs.Division.{square, choice, blocks};
 ghost use Rattle.division.specs.Division.Inside.{Inside};
 ghost use Rattle.division.specs.Forms.{block};
-ghost use Rattle.leaves.specs.Walk.{place, enter-one, filled-with, exchanged, near, far, Fits, least-one, checked, wrong-at, wrong-in};
+ghost use Rattle.leaves.specs.Walk.{place, enter-one, filled-with, exchanged, near, far, Fits, least-one, checked, wrong-packed, wrong-unpacked};
 
 // A square's place in a table by square.
 fn place_of(along: u32, across: u32, turned: bool, w: u32) -> u32
-    requires { ⌜ place w (cond turned (square across along) (square along across)) < 4294967296 ⌝ }
+    requires { ⌜ place w (cond turned (square across along) (square along across)) < past-32-bits ⌝ }
     ensures { λ r. ⌜ r ≡ place w (cond turned (square across along) (square along across)) ⌝ }
 {
     division::either(turned, along, across) * w + division::either(turned, across, along)
@@ -57,7 +58,7 @@ pub fn exchanged_block(k: Placed) -> Placed
 
 // Enters two squares, numbered on from n.
 fn enter_two(table: &mut [u32], n: u32, p: u32, q: u32, by_square: bool)
-    requires { ⌜ (n + 1 < 4294967296) × (n + 1 < length (now table)) × (p < length (now table)) × (q < length (now table)) ⌝ }
+    requires { ⌜ (n + 1 < past-32-bits) × (n + 1 < length (now table)) × (p < length (now table)) × (q < length (now table)) ⌝ }
     ensures { λ r. ⌜ now (table .exit) ≡ enter-one «by_square» (enter-one «by_square» (now (table .entry)) n p) (n + 1) q ⌝ }
 {
     enter(table, n, p, by_square);
@@ -72,7 +73,7 @@ struct Rung {
 
 // The two that lie v along its side.
 fn rung_at(k: Placed, v: u32, area: Area) -> Rung
-    requires { ⌜ Inside (area .w) (area .h) (block k) × (area .w ≤ 65535) × (area .h ≤ 65535) × (k .a ≡ 2) × (v < k .b) ⌝ }
+    requires { ⌜ Inside (area .w) (area .h) (block k) × (area .w ≤ longest-side) × (area .h ≤ longest-side) × (k .a ≡ 2) × (v < k .b) ⌝ }
     ensures { λ r. ⌜ (r .near ≡ place (area .w) (near (block k) v)) × (r .far ≡ place (area .w) (far (block k) v)) ⌝ }
 {
     let w = area.w;
@@ -109,19 +110,19 @@ pub struct Wrong {
     pub due: u32,
 }
 
-// Both in one word, of which the lesser has the lesser place; and out of the word again.
-pub fn wrong_word(place: u32, due: u32) -> u64
-    ensures { λ r. ⌜ r ≡ wrong-at place due ⌝ }
+// Both packed into one number, of which the lesser has the lesser place, and taken out again.
+pub fn pack_wrong(place: u32, due: u32) -> u64
+    ensures { λ r. ⌜ r ≡ wrong-packed place due ⌝ }
 {
-    place as u64 * 4294967296 + due as u64
+    place as u64 * terms::PAST_32_BITS + due as u64
 }
 
-pub fn wrong_in(word: u64) -> Wrong
-    ensures { λ r. ⌜ r ≡ wrong-in word ⌝ }
+pub fn unpack_wrong(packed: u64) -> Wrong
+    ensures { λ r. ⌜ r ≡ wrong-unpacked packed ⌝ }
 {
     Wrong {
-        place: (word / 4294967296) as u32,
-        due: (word % 4294967296) as u32,
+        place: (packed / terms::PAST_32_BITS) as u32,
+        due: (packed % terms::PAST_32_BITS) as u32,
     }
 }
 
@@ -136,7 +137,7 @@ fn compare(table: &[u32], n: u32, p: u32, by_square: bool, least: u64) -> u64
     if table[i] == due {
         return least;
     }
-    let wrong = wrong_word(place, due);
+    let wrong = pack_wrong(place, due);
     if wrong < least {
         return wrong;
     }
@@ -159,7 +160,7 @@ pub fn check_run(table: &[u32], k: Placed, area: Area, at: u32, by_square: bool,
 
 // Looks at two squares, numbered on from n.
 fn compare_two(table: &[u32], n: u32, p: u32, q: u32, by_square: bool, least: u64) -> u64
-    requires { ⌜ (n + 1 < 4294967296) × (n + 1 < length (now table)) × (p < length (now table)) × (q < length (now table)) ⌝ }
+    requires { ⌜ (n + 1 < past-32-bits) × (n + 1 < length (now table)) × (p < length (now table)) × (q < length (now table)) ⌝ }
     ensures { λ r. ⌜ r ≡ least-one «by_square» (now (table .entry)) (least-one «by_square» (now (table .entry)) least n p) (n + 1) q ⌝ }
 {
     compare(

@@ -14,7 +14,7 @@ use Rattle.words.specs.declared.Numeral.{Numeral}
 use Rattle.words.specs.declared.Numeral.the-variants.{Value, NoNumber}
 use Rattle.lines.specs.declared.Request.{Request}
 use Rattle.lines.specs.declared.Request.the-variants.{SetArea, AskNumber, AskSquare, Refused}
-use Rattle.words.specs.Words.{is-digit, all-digits, numeral, same-bytes}
+use Rattle.words.specs.Words.{largest-number, is-digit, all-digits, numeral, same-bytes}
 use Rattle.lines.specs.Lines.{onto, fields, AREA, N, S, is-empty, by-one, by-two, of-two, two-fields, three-fields, shaped, request}
 use Rattle.words.specs.Decimal.{decimal}
 use Rattle.lines.specs.Reading.{word}
@@ -283,7 +283,7 @@ unshaped-line line l unshaped =
     ∙ no-shape line (word line) unshaped (rest line) (all .1) (sym (between-fields line) ∙ ap between (fields-are line)))
 
 -- `N i`, `AREA w h` and `S x y`, spelt, ask for these numbers.
-module _ (n : ℕ) (most : n ≤ 4294967295) where
+module _ (n : ℕ) (most : n ≤ largest-number) where
   decimal-filled : Filled (decimal n)
   decimal-filled =
       let r = reads (decimal n) n (read-back n most) in
@@ -292,7 +292,7 @@ module _ (n : ℕ) (most : n ≤ 4294967295) where
   pub number-spelt : request (with-one N n) ≡ AskNumber n
   number-spelt = number-line (decimal n) decimal-filled (let few = ten-digits n (omega arith) in omega arith) .0 n (read-back n most)
 
-module _ (n m : ℕ) (most : n ≤ 4294967295) (most′ : m ≤ 4294967295) where
+module _ (n m : ℕ) (most : n ≤ largest-number) (most′ : m ≤ largest-number) where
   few : length (decimal n ++ (32 ∷ decimal m)) ≤ 21
   few =
       let one = ten-digits n (omega arith) in

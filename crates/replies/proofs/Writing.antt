@@ -9,6 +9,7 @@ use borrow.Author.Tests.{not-true, not-false, leb-true, leb-false, le-leb, lt-le
 use lib.Dec.{leb}
 use lib.ListN.{length, length-append, getD, take, drop, set}
 use lib.Seq.{sets, sets-eq, length-sets, take-suc, take-length, length-take-le, take-at, drop-at, slice}
+use Rattle.terms.specs.Terms.{past-32-bits}
 use Rattle.words.specs.Decimal.{decimal}
 use Rattle.words.proofs.Decimals.{ten-digits, digits-more}
 use Rattle.replies.specs.Text.{spaced, all-spaced, longest, Writes, if-room}
@@ -38,7 +39,7 @@ pub writes-none : (t : List ℕ) (i : ℕ) → Writes t i [] t i
 writes-none t i = record { written = refl; behind = sym (add-zero i) }
 
 -- a number that was written ends at most ten bytes on
-pub number-near : {t t′ : List ℕ} {at n end : ℕ} → n < 4294967296 → Writes t at (decimal n) t′ end → end ≤ at + 10
+pub number-near : {t t′ : List ℕ} {at n end : ℕ} → n < past-32-bits → Writes t at (decimal n) t′ end → end ≤ at + 10
 number-near {n = n} fits w = omega (arith, w .behind, ten-digits n fits)
 
 -- after the digits before the last there is room for the last

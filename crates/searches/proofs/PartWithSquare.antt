@@ -6,6 +6,7 @@ use native.Mathlib.Nat.{add-assoc, sub-self, mul-comm, mul-le-mul, le-mul-of-pos
 use native.Mathlib.Omega.{arith}
 use borrow.Author.Tests.{ltb-true, ltb-false}
 use lib.Dec.{ltb}
+use Rattle.terms.specs.Terms.{longest-side, past-32-bits}
 use Rattle.division.specs.declared.Choice.the-variants.{StraightRun, StraightSide, LongCut, UCut}
 use Rattle.division.specs.declared.Spot.{Spot}
 use Rattle.division.specs.Division.{square, whole, choice, even-half, First, Second, A, B, C, part, parts-of}
@@ -35,9 +36,9 @@ module _ (s : Spot) (before : ℕ) (r : Lying s before) (two : 2 ≤ s .b) where
       let a-least : 1 ≤ s .a = let l = r .along in omega arith in
       let b-least : 1 ≤ s .b = omega arith in
       let small = whole-inside (s .a) (s .b) a-least b-least in
-      let large : Inside 65535 65535 k =
+      let large : Inside longest-side longest-side k =
       record { sized = small .sized; paired = x-y; run = let l = r .a-limit in omega arith; side = let l = r .b-limit in omega arith } in
-      let q-inside = lies-inside 65535 65535 k large two here lies in
+      let q-inside = lies-inside longest-side longest-side k large two here lies in
       let less = lies-smaller k (small .sized) here lies .two-thirds in
       let fits = lies-fits (s .a) (s .b) k small two here lies in
       let answers = area-cut (s .a) (s .b) a-least b-least here two lies in
@@ -112,7 +113,7 @@ module _ {s : Spot} {before above : ℕ} (r : Searches s before above) where
   lies-in : Within (s .a) (s .b) (square (s .u) (s .v))
   lies-in = record { run = r .lying .along; side = r .lying .across }
 
-  pub along-fits : before + s .u < 4294967296
+  pub along-fits : before + s .u < past-32-bits
   unfolding whole
   along-fits =
       let wide : s .a ≤ s .a * s .b = le-mul-of-pos-right (s .a) (sized-of s (r .lying) .side) in
@@ -120,7 +121,7 @@ module _ {s : Spot} {before above : ℕ} (r : Searches s before above) where
       let room = r .lying .room in
       omega arith
 
-  pub across-fits : before + s .v < 4294967296
+  pub across-fits : before + s .v < past-32-bits
   unfolding whole
   across-fits =
       let wide : s .b ≤ s .b * s .a = le-mul-of-pos-right (s .b) (sized-of s (r .lying) .run) in
@@ -162,9 +163,9 @@ module _ {s : Spot} {before above : ℕ} (r : Searches s before above) where
     next-packed = let n = l .holding in let m = l .number in omega arith
 
 -- what was packed is what is taken out again
-pub taken-out : (number blocks : ℕ) → number < 4294967296 → blocks < 256 → number-unpacked (number-packed number blocks) ≡ numbered number blocks
+pub taken-out : (number blocks : ℕ) → number < past-32-bits → blocks < 256 → number-unpacked (number-packed number blocks) ≡ numbered number blocks
 taken-out number blocks l few =
-    let number-is : number-packed number blocks / 256 % 4294967296 ≡ number = omega arith in
+    let number-is : number-packed number blocks / 256 % past-32-bits ≡ number = omega arith in
     let blocks-is : number-packed number blocks % 256 ≡ blocks = omega arith in
     λ i. record { number = number-is i; blocks = blocks-is i }
 

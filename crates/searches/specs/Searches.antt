@@ -2,6 +2,7 @@
 -- the others by their areas." It returns one number, into which are packed a number and a count of blocks below 256.
 use mathlib.Core.Path.{_≡_}
 use Prim.Native.Nat.{ℕ, suc, _+_, _*_, _/_, _%_, _≤_, _<_}
+use Rattle.terms.specs.Terms.{longest-side, past-32-bits}
 use Rattle.division.specs.declared.Spot.{Spot}
 use Rattle.searches.specs.declared.Numbered.{Numbered}
 use Rattle.division.specs.Division.{square, whole, number-of, blocks-holding}
@@ -10,7 +11,7 @@ abbrev pub number-packed : ℕ → ℕ → ℕ
 number-packed number blocks = number * 256 + blocks
 
 abbrev pub number-unpacked : (packed : ℕ) → Numbered
-number-unpacked packed = record { number = packed / 256 % 4294967296; blocks = packed % 256 }
+number-unpacked packed = record { number = packed / 256 % past-32-bits; blocks = packed % 256 }
 
 -- A number with a count of blocks, as the code has them when they are taken out.
 abbrev pub numbered : (number blocks : ℕ) → Numbered
@@ -29,11 +30,11 @@ spot-blocks s = blocks-holding (whole (s .a) (s .b)) (square (s .u) (s .v))
 
 -- A spot that lies in its block, `before` numbers on.
 pub record Lying (s : Spot) (before : ℕ) : Type 0 where
-  pub a-limit : s .a ≤ 65535
-  pub b-limit : s .b ≤ 65535
+  pub a-limit : s .a ≤ longest-side
+  pub b-limit : s .b ≤ longest-side
   pub along : s .u < s .a
   pub across : s .v < s .b
-  pub room : before + s .a * s .b < 4294967296
+  pub room : before + s .a * s .b < past-32-bits
 
 -- One step down from a spot to the same square in a smaller block: the same number, and one block more that holds it.
 pub record Leads (s : Spot) (before : ℕ) (t : Spot) (on : ℕ) : Type 0 where

@@ -23,7 +23,7 @@ fn unpack_number(packed: u64) -> Numbered
     ensures { λ r. ⌜ r ≡ number-unpacked packed ⌝ }
 {
     Numbered {
-        number: (packed / 256 % 4294967296) as u32,
+        number: (packed / 256 % terms::PAST_32_BITS) as u32,
         blocks: (packed % 256) as u32,
     }
 }

@@ -9,12 +9,12 @@ use native.Mathlib.Omega.{arith}
 use borrow.Author.Tests.{eq-eqb, ne-eqb, eqb-true, eqb-false}
 use lib.Dec.{eqb}
 use lib.ListN.{length, getD}
-use Rattle.terms.specs.Terms.{accepted, answered}
+use Rattle.terms.specs.Terms.{past-32-bits, accepted, answered}
 use Rattle.terms.proofs.Laws.{limits, squares-limit}
 use Rattle.division.specs.Division.{Block, whole}
 use Rattle.tables.specs.Tables.{judged, due-by, check}
 use Rattle.leaves.specs.declared.Wrong.{Wrong}
-use Rattle.leaves.specs.Walk.{wrong-at, wrong-in, checked, Fits}
+use Rattle.leaves.specs.Walk.{wrong-packed, wrong-unpacked, checked, Fits}
 use Rattle.leaves.proofs.Entries.{either-below, squares-fit}
 use Rattle.leaves.proofs.Checks.{taken-out, over-below, over-some}
 use Rattle.tables.proofs.Whole.{taken}
@@ -46,13 +46,13 @@ wrong-told r = 1 ∷ r .place ∷ r .due ∷ []
 
 -- What the least wrong place of n says, where n itself as a place means none.
 abbrev verdict : (n least : ℕ) → List ℕ
-verdict n least = cond (eqb least (wrong-at n 0)) (0 ∷ 0 ∷ 0 ∷ []) (wrong-told (wrong-in least))
+verdict n least = cond (eqb least (wrong-packed n 0)) (0 ∷ 0 ∷ 0 ∷ []) (wrong-told (wrong-unpacked least))
 
 -- Of a table vs that should hold ds, both of n places: m is n as a place, or a wrong place, and no wrong place is less.
-module _ (ds vs : List ℕ) (n : ℕ) (long : length ds ≡ n) (size : length vs ≡ n) (small : (i : ℕ) → i < n → getD ds i 0 < 4294967296) (m : ℕ)
-    (below : (i : ℕ) → i < n → (Same ds vs i → ⊥) → m ≤ wrong-at i (getD ds i 0))
-    (some : (P : ℕ → Type 0) → P (wrong-at n 0) → ((i : ℕ) → i < n → (Same ds vs i → ⊥) → P (wrong-at i (getD ds i 0))) → P m) where
-  same-by : (i : ℕ) → i < n → (right : Bool) → eqb (getD vs i 0) (getD ds i 0) ≡ right → (l : ℕ) → i < l → wrong-at l 0 ≤ m → Same ds vs i
+module _ (ds vs : List ℕ) (n : ℕ) (long : length ds ≡ n) (size : length vs ≡ n) (small : (i : ℕ) → i < n → getD ds i 0 < past-32-bits) (m : ℕ)
+    (below : (i : ℕ) → i < n → (Same ds vs i → ⊥) → m ≤ wrong-packed i (getD ds i 0))
+    (some : (P : ℕ → Type 0) → P (wrong-packed n 0) → ((i : ℕ) → i < n → (Same ds vs i → ⊥) → P (wrong-packed i (getD ds i 0))) → P m) where
+  same-by : (i : ℕ) → i < n → (right : Bool) → eqb (getD vs i 0) (getD ds i 0) ≡ right → (l : ℕ) → i < l → wrong-packed l 0 ≤ m → Same ds vs i
   same-by i b true e l less least = eqb-true _ _ e
   same-by i b false e l less least = let no-less = below i b (eqb-false _ _ e) in let value = small i b in absurd (omega arith)
 
@@ -60,21 +60,21 @@ module _ (ds vs : List ℕ) (n : ℕ) (long : length ds ≡ n) (size : length vs
   first-wrong =
       some (λ x. x ≡ m → judged 0 ds vs ≡ verdict n x)
       (λ e. judged-right 0 ds vs (size ∙ sym long) (λ i l. let b : i < n = omega arith in same-by i b (eqb (getD vs i 0) (getD ds i 0)) refl n b (omega arith))
-      ∙ sym (rw (eq-eqb (wrong-at n 0) (wrong-at n 0) refl)))
+      ∙ sym (rw (eq-eqb (wrong-packed n 0) (wrong-packed n 0) refl)))
       (λ i b other e. let value = small i b in
       judged-wrong 0 ds vs (size ∙ sym long) i (omega arith) other
       (λ j l. same-by j (omega arith) (eqb (getD vs j 0) (getD ds j 0)) refl i l (omega arith))
       ∙ sym
-      (rw (ne-eqb (wrong-at i (getD ds i 0)) (wrong-at n 0) (λ z. omega arith))
+      (rw (ne-eqb (wrong-packed i (getD ds i 0)) (wrong-packed n 0) (λ z. omega arith))
       (ap wrong-told (taken-out i (getD ds i 0) value) ∙ ap (λ k. 1 ∷ k ∷ getD ds i 0 ∷ []) (sym (zero-add i)))))
       refl
 
-module _ (w h : ℕ) (a : 1 ≤ w) (b : 1 ≤ h) (limit : w * h < 4294967296) (kind : Bool) (t : List ℕ) (size : length t ≡ w * h) where
+module _ (w h : ℕ) (a : 1 ≤ w) (b : 1 ≤ h) (limit : w * h < past-32-bits) (kind : Bool) (t : List ℕ) (size : length t ≡ w * h) where
   abbrev due : List ℕ
   due = due-by kind w h
 
   abbrev least : ℕ
-  least = checked kind w t (whole w h) 0 (wrong-at (w * h) 0)
+  least = checked kind w t (whole w h) 0 (wrong-packed (w * h) 0)
 
   -- the place of each look, and each place's look
   value : (j : ℕ) → j < w * h → getD due (cond kind (getD (ps w h) j 0) (0 + j)) 0 ≡ cond kind (0 + j) (getD (ps w h) j 0)
@@ -86,7 +86,7 @@ module _ (w h : ℕ) (a : 1 ≤ w) (b : 1 ≤ h) (limit : w * h < 4294967296) (k
   value-at : (i : ℕ) → i < w * h → cond kind (0 + looked-for w h a b kind i) (getD (ps w h) (looked-for w h a b kind i) 0) ≡ getD due i 0
   value-at i l = sym (value (looked-for w h a b kind i) (looked-below w h a b kind i l)) ∙ ap (λ k. getD due k 0) (at i l)
 
-  small : (i : ℕ) → i < w * h → getD due i 0 < 4294967296
+  small : (i : ℕ) → i < w * h → getD due i 0 < past-32-bits
   small i l =
       let j = looked-for w h a b kind i in
       let both = values-below w h a b j (looked-below w h a b kind i l) (0 + j) (zero-add j) in
@@ -94,20 +94,20 @@ module _ (w h : ℕ) (a : 1 ≤ w) (b : 1 ≤ h) (limit : w * h < 4294967296) (k
       let is = value-at i l in
       omega arith
 
-  below : (i : ℕ) → i < w * h → (Same due t i → ⊥) → least ≤ wrong-at i (getD due i 0)
+  below : (i : ℕ) → i < w * h → (Same due t i → ⊥) → least ≤ wrong-packed i (getD due i 0)
   below i l other =
       let j = looked-for w h a b kind i in
-      subst (λ (n : ℕ). least ≤ n) (ap₂ wrong-at (at i l) (value-at i l))
-      (over-below kind t (wrong-at (w * h) 0) 0 (ps w h) j (subst⁻¹ (λ (n : ℕ). j < n) (ps-length w h a b) (looked-below w h a b kind i l))
+      subst (λ (n : ℕ). least ≤ n) (ap₂ wrong-packed (at i l) (value-at i l))
+      (over-below kind t (wrong-packed (w * h) 0) 0 (ps w h) j (subst⁻¹ (λ (n : ℕ). j < n) (ps-length w h a b) (looked-below w h a b kind i l))
       (λ r. other (ap (λ k. getD t k 0) (sym (at i l)) ∙ r ∙ value-at i l)))
 
-  some : (P : ℕ → Type 0) → P (wrong-at (w * h) 0) → ((i : ℕ) → i < w * h → (Same due t i → ⊥) → P (wrong-at i (getD due i 0))) → P least
+  some : (P : ℕ → Type 0) → P (wrong-packed (w * h) 0) → ((i : ℕ) → i < w * h → (Same due t i → ⊥) → P (wrong-packed i (getD due i 0))) → P least
   some P none wrong =
-      over-some kind t P (wrong-at (w * h) 0) 0 (ps w h) none
+      over-some kind t P (wrong-packed (w * h) 0) 0 (ps w h) none
       (λ j l other. let b′ : j < w * h = subst (λ (n : ℕ). j < n) (ps-length w h a b) l in
       let i = cond kind (getD (ps w h) j 0) (0 + j) in
       let both = values-below w h a b j b′ (0 + j) (zero-add j) in
-      subst (λ (v : ℕ). P (wrong-at i v)) (value j b′)
+      subst (λ (v : ℕ). P (wrong-packed i v)) (value j b′)
       (wrong i (either-below (0 + j) (getD (ps w h) j 0) (w * h) kind (both .0) (both .1)) (λ s. other (s ∙ value j b′))))
 
   whole-checked : judged 0 due t ≡ verdict (w * h) least
@@ -115,7 +115,7 @@ module _ (w h : ℕ) (a : 1 ≤ w) (b : 1 ≤ h) (limit : w * h < 4294967296) (k
 
 -- the verdict on a table that fits, from the least wrong place of a walk over the whole area
 module _ (w h : ℕ) (kind : Bool) (t : List ℕ) (fits : Fits w h t (whole w h) 0) (k : Block) (is : k ≡ whole w h) (none : ℕ)
-    (none-is : none ≡ wrong-at (w * h) 0) (least : ℕ) (least-is : least ≡ checked kind w t k 0 none) where
+    (none-is : none ≡ wrong-packed (w * h) 0) (least : ℕ) (least-is : least ≡ checked kind w t k 0 none) where
   verdict-is : verdict (w * h) least ≡ judged 0 (due-by kind w h) t
   unfolding whole
   verdict-is =
@@ -125,9 +125,9 @@ module _ (w h : ℕ) (kind : Bool) (t : List ℕ) (fits : Fits w h t (whole w h)
       ∙ ap (verdict (w * h)) (sym (least-is ∙ ap₂ (λ j none. checked kind w t j 0 none) is none-is)))
 
   pub right-is : least ≡ none → answered (0 ∷ 0 ∷ 0 ∷ []) ≡ answered (judged 0 (due-by kind w h) t)
-  right-is e = ap answered (sym (rw (eq-eqb least (wrong-at (w * h) 0) (e ∙ none-is))) ∙ verdict-is)
+  right-is e = ap answered (sym (rw (eq-eqb least (wrong-packed (w * h) 0) (e ∙ none-is))) ∙ verdict-is)
 
-  pub wrong-is : (least ≡ none → ⊥) → (r : Wrong) → r ≡ wrong-in least → answered (1 ∷ r .place ∷ r .due ∷ []) ≡ answered (judged 0 (due-by kind w h) t)
+  pub wrong-is : (least ≡ none → ⊥) → (r : Wrong) → r ≡ wrong-unpacked least → answered (1 ∷ r .place ∷ r .due ∷ []) ≡ answered (judged 0 (due-by kind w h) t)
   wrong-is e r read =
       ap (λ r. answered (wrong-told r)) read
-      ∙ ap answered (sym (rw (ne-eqb least (wrong-at (w * h) 0) (λ z. e (z ∙ sym none-is)))) ∙ verdict-is)
+      ∙ ap answered (sym (rw (ne-eqb least (wrong-packed (w * h) 0) (λ z. e (z ∙ sym none-is)))) ∙ verdict-is)

@@ -92,12 +92,12 @@ fn check_fitting(area: Area, table: &[u32], by_square: bool) -> CheckAnswer
     requires { ⌜ Fits (area .w) (area .h) (now table) (whole (area .w) (area .h)) 0 ⌝ }
     ensures { λ r. ⌜ check-figures r ≡ answered (judged 0 (due-by «by_square» (area .w) (area .h)) (now (table .entry))) ⌝ }
 {
-    let none = leaves::wrong_word(area.w * area.h, 0);
+    let none = leaves::pack_wrong(area.w * area.h, 0);
     let least = checks::check_block(table, whole_block(area), area, 0, by_square, none);
     if least == none {
         return CheckAnswer::Right;
     }
-    let wrong = leaves::wrong_in(least);
+    let wrong = leaves::unpack_wrong(least);
     CheckAnswer::Wrong {
         place: wrong.place,
         due: wrong.due,

@@ -11,7 +11,7 @@ use native.Mathlib.Omega.{arith}
 use Rattle.terms.specs.declared.Refusal.{Refusal}
 use Rattle.terms.specs.declared.Refusal.the-variants.{AreaLimit, SquareOutside, NumberOutside, TableLength, NotANumber, WrongShape, NoArea, LongLine}
 use Rattle.terms.specs.declared.Refusal.the-variants.{TooDeep}
-use Rattle.terms.specs.Terms.{length-accepted, accepted, refusal-number, Figures}
+use Rattle.terms.specs.Terms.{longest-side, past-32-bits, length-accepted, accepted, refusal-number, Figures}
 
 -- what a call learns from the test of its area
 pub is-accepted : (w h : ℕ) {told : Bool} → told ≡ accepted w h → not told ≡ false → accepted w h ≡ true
@@ -22,28 +22,28 @@ is-refused w h e failed = sym e ∙ not-true _ failed
 
 pub record Limits (w h : ℕ) : Type 0 where
   pub w-least : 1 ≤ w
-  pub w-most : w ≤ 65535
+  pub w-most : w ≤ longest-side
   pub h-least : 1 ≤ h
-  pub h-most : h ≤ 65535
+  pub h-most : h ≤ longest-side
 
 pub limits : (w h : ℕ) → accepted w h ≡ true → Limits w h
 unfolding accepted
 limits w h e =
     let both = and-eq-true-iff (length-accepted w) (length-accepted h) .0 e in
-    let width = and-eq-true-iff (leb 1 w) (leb w 65535) .0 (both .0) in
-    let height = and-eq-true-iff (leb 1 h) (leb h 65535) .0 (both .1) in
+    let width = and-eq-true-iff (leb 1 w) (leb w longest-side) .0 (both .0) in
+    let height = and-eq-true-iff (leb 1 h) (leb h longest-side) .0 (both .1) in
     record {
       w-least = leb-true 1 w (width .0);
-      w-most = leb-true w 65535 (width .1);
+      w-most = leb-true w longest-side (width .1);
       h-least = leb-true 1 h (height .0);
-      h-most = leb-true h 65535 (height .1);
+      h-most = leb-true h longest-side (height .1);
     }
 
 -- an accepted area's squares are a 32-bit number
-pub squares-limit : (w h : ℕ) → accepted w h ≡ true → w * h < 4294967296
+pub squares-limit : (w h : ℕ) → accepted w h ≡ true → w * h < past-32-bits
 squares-limit w h e =
     let all = limits w h e in
-    let most : w * h ≤ 65535 * 65535 = mul-le-mul (all .w-most) (all .h-most) in
+    let most : w * h ≤ longest-side * longest-side = mul-le-mul (all .w-most) (all .h-most) in
     omega arith
 
 -- the refusals by their numbers, from 1; this one law grows with them

@@ -10,8 +10,11 @@ use Rattle.terms.specs.declared.Refusal.the-variants.{AreaLimit, SquareO
 use Rattle.terms.specs.declared.Refusal.the-variants.{TooDeep}
 
 -- "An area has a width w and a height h, each from 1 to 65,535."
+abbrev pub longest-side : ℕ
+longest-side = 65535
+
 abbrev pub length-accepted : ℕ → Bool
-length-accepted n = leb 1 n && leb n 65535
+length-accepted n = leb 1 n && leb n longest-side
 
 unfoldable pub accepted : (w h : ℕ) → Bool
 accepted w h = length-accepted w && length-accepted h
@@ -59,3 +62,7 @@ refused r n = refused-with r (replicate n 0)
 -- "For library calls the order is 1, then ..": the answer of a call on an area that is accepted, else the area's refusal, where n values would be answered.
 abbrev pub on-area : (w h n : ℕ) → Figures → Figures
 on-area w h n answer = cond (accepted w h) answer (refused (area-refusal w h) n)
+
+-- The least number that has not 32 bits: an area has fewer squares, and every number that is asked or answered is below it.
+abbrev pub past-32-bits : ℕ
+past-32-bits = 4294967296

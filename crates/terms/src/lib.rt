@@ -5,6 +5,9 @@ ghost use Rattle.terms.specs.Terms.{length-accepted, accepted, area-refu
 // The longest width or height.
 const LONGEST_SIDE: u32 = 65535;
 
+// The least number that has not 32 bits.
+pub const PAST_32_BITS: u64 = 4294967296;
+
 // An area's width and height.
 pub struct Area {
     pub w: u32,

@@ -9,8 +9,9 @@ use native.Mathlib.Omega.{arith}
 use borrow.Author.Tests.{ltb-true, ltb-false, lt-ltb, le-ltb, leb-true, le-leb, eqb-false, ne-eqb, not-true}
 use lib.Dec.{leb, ltb, eqb}
 use lib.ListN.{length, length-append, getD, List·getD-append}
+use Rattle.terms.specs.Terms.{past-32-bits}
 use Rattle.words.specs.declared.Numeral.the-variants.{Value, NoNumber}
-use Rattle.words.specs.Words.{is-digit, all-digits, well-begun, value-on, value, is-number, numeral}
+use Rattle.words.specs.Words.{largest-number, is-digit, all-digits, well-begun, value-on, value, is-number, numeral}
 use Rattle.words.specs.Decimal.{decimal-by, decimal}
 
 -- the digits before the last are those of the tenth part
@@ -52,7 +53,7 @@ few-digits (suc k) n l = by (ltb n 10) refl (few-digits k (n / 10))
         let few = rest (omega arith) in
         omega arith
 
-pub ten-digits : (n : ℕ) → n < 4294967296 → length (decimal n) ≤ 10
+pub ten-digits : (n : ℕ) → n < past-32-bits → length (decimal n) ≤ 10
 ten-digits n l = few-digits 9 n (omega arith)
 
 -- digits read one after the other
@@ -122,13 +123,13 @@ printed-begun n = by (ltb n 10) refl
     by false e = well-begun-from (decimal n) (prints n .begun (let large = ltb-false n 10 e in omega arith))
 
 -- What is printed for a number is read as that number.
-pub read-back : (n : ℕ) → n ≤ 4294967295 → numeral (decimal n) ≡ Value n
+pub read-back : (n : ℕ) → n ≤ largest-number → numeral (decimal n) ≡ Value n
 unfolding numeral is-number
 read-back n l =
     let p = prints n in
     let few = ten-digits n (omega arith) in
     let same = p .valued in
-    let within = le-leb (value (decimal n)) 4294967295 (omega arith) in
+    let within = le-leb (value (decimal n)) largest-number (omega arith) in
     rw (le-leb 1 (length (decimal n)) (p .some), le-leb (length (decimal n)) 10 few, p .digits, printed-begun n, within) (ap Value same)
 
 -- What is known of a field that is read as n.
@@ -138,7 +139,7 @@ pub record Reads (f : List ℕ) (n : ℕ) : Type 0 where
   pub digits : all-digits f ≡ true
   pub begun : well-begun f ≡ true
   pub valued : value f ≡ n
-  pub most : n ≤ 4294967295
+  pub most : n ≤ largest-number
 
 pub reads : (f : List ℕ) (n : ℕ) → numeral f ≡ Value n → Reads f n
 unfolding numeral is-number
@@ -148,11 +149,11 @@ reads f n e = by (is-number f) refl e
     by false p q = absurd (let z : _≡_ {A = ℕ} 0 1 = cc in omega arith)
     by true p q =
         let same : value f ≡ n = cc in
-        let fifth = and-eq-true-iff (leb 1 (length f) && leb (length f) 10 && all-digits f && well-begun f) (leb (value f) 4294967295) .0 p in
+        let fifth = and-eq-true-iff (leb 1 (length f) && leb (length f) 10 && all-digits f && well-begun f) (leb (value f) largest-number) .0 p in
         let fourth = and-eq-true-iff (leb 1 (length f) && leb (length f) 10 && all-digits f) (well-begun f) .0 (fifth .0) in
         let third = and-eq-true-iff (leb 1 (length f) && leb (length f) 10) (all-digits f) .0 (fourth .0) in
         let second = and-eq-true-iff (leb 1 (length f)) (leb (length f) 10) .0 (third .0) in
-        let most = leb-true (value f) 4294967295 (fifth .1) in
+        let most = leb-true (value f) largest-number (fifth .1) in
         record {
           some = leb-true 1 (length f) (second .0);
           few = leb-true (length f) 10 (second .1);

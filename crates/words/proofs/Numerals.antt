@@ -9,12 +9,13 @@ use borrow.Author.Tests.{le-leb, lt-leb}
 use lib.Dec.{leb, eqb}
 use lib.ListN.{length, getD, drop}
 use lib.Seq.{drop-cons, drop-length}
+use Rattle.terms.specs.Terms.{past-32-bits}
 use Rattle.words.specs.declared.Numeral.the-variants.{Value, NoNumber}
-use Rattle.words.specs.Words.{all-digits, well-begun, value-on, value, is-number, numeral}
+use Rattle.words.specs.Words.{largest-number, all-digits, well-begun, value-on, value, is-number, numeral}
 
 -- the value of digits that follow the value n, or one over the largest number if a byte is no digit
 abbrev pub due : ℕ → List ℕ → ℕ
-due n bs = cond (all-digits bs) (value-on n bs) 4294967296
+due n bs = cond (all-digits bs) (value-on n bs) past-32-bits
 
 pub due-on : (s : List ℕ) (i v : ℕ) → i < length s → 48 ≤ getD s i 0 → getD s i 0 ≤ 57 → due (v * 10 + (getD s i 0 - 48)) (drop (i + 1) s) ≡ due v (drop i s)
 unfolding all-digits value-on
@@ -22,11 +23,11 @@ due-on s i v l low high =
     let on : i + 1 ≡ suc i = omega arith in
     rw on (rw (drop-cons s i 0 l) (rw (le-leb 48 (getD s i 0) low, le-leb (getD s i 0) 57 high) refl))
 
-pub due-low : (s : List ℕ) (i v : ℕ) → i < length s → getD s i 0 < 48 → 4294967296 ≡ due v (drop i s)
+pub due-low : (s : List ℕ) (i v : ℕ) → i < length s → getD s i 0 < 48 → past-32-bits ≡ due v (drop i s)
 unfolding all-digits
 due-low s i v l low = rw (drop-cons s i 0 l) (rw (lt-leb 48 (getD s i 0) low) refl)
 
-pub due-high : (s : List ℕ) (i v : ℕ) → i < length s → 48 ≤ getD s i 0 → 57 < getD s i 0 → 4294967296 ≡ due v (drop i s)
+pub due-high : (s : List ℕ) (i v : ℕ) → i < length s → 48 ≤ getD s i 0 → 57 < getD s i 0 → past-32-bits ≡ due v (drop i s)
 unfolding all-digits
 due-high s i v l low high = rw (drop-cons s i 0 l) (rw (le-leb 48 (getD s i 0) low, lt-leb (getD s i 0) 57 high) refl)
 
@@ -86,23 +87,23 @@ module _ (s : List ℕ) where
 
   pub ill-begun : begun s ≡ false → NoNumber ≡ numeral s
   unfolding is-number
-  ill-begun e = tested (no-begin (leb 1 (length s)) (leb (length s) 10) (all-digits s) (well-begun s) (leb (value s) 4294967295) e)
+  ill-begun e = tested (no-begin (leb 1 (length s)) (leb (length s) 10) (all-digits s) (well-begun s) (leb (value s) largest-number) e)
 
   pub too-long : 10 < length s → NoNumber ≡ numeral s
   unfolding is-number
-  too-long l = tested (rw (lt-leb (length s) 10 l) (no-second (leb 1 (length s)) (all-digits s) (well-begun s) (leb (value s) 4294967295)))
+  too-long l = tested (rw (lt-leb (length s) 10 l) (no-second (leb 1 (length s)) (all-digits s) (well-begun s) (leb (value s) largest-number)))
 
   module _ (v : ℕ) (is : v ≡ due 0 s) where
-    over-by : (t : Bool) → all-digits s ≡ t → 4294967295 < v → (all-digits s && leb (value s) 4294967295) ≡ false
-    over-by true e l = rw e (lt-leb (value s) 4294967295 (subst (λ (n : ℕ). 4294967295 < n) (is ∙ rw e refl) l))
+    over-by : (t : Bool) → all-digits s ≡ t → largest-number < v → (all-digits s && leb (value s) largest-number) ≡ false
+    over-by true e l = rw e (lt-leb (value s) largest-number (subst (λ (n : ℕ). largest-number < n) (is ∙ rw e refl) l))
     over-by false e l = rw e refl
 
-    pub too-large : 4294967295 < v → NoNumber ≡ numeral s
+    pub too-large : largest-number < v → NoNumber ≡ numeral s
     unfolding is-number
     too-large l =
-        tested (no-value (leb 1 (length s)) (leb (length s) 10) (all-digits s) (well-begun s) (leb (value s) 4294967295) (over-by (all-digits s) refl l))
+        tested (no-value (leb 1 (length s)) (leb (length s) 10) (all-digits s) (well-begun s) (leb (value s) largest-number) (over-by (all-digits s) refl l))
 
-    pub a-number : begun s ≡ true → length s ≤ 10 → v ≤ 4294967295 → Value v ≡ numeral s
+    pub a-number : begun s ≡ true → length s ≤ 10 → v ≤ largest-number → Value v ≡ numeral s
     unfolding numeral is-number
     a-number well few least = by (all-digits s) refl
       where
@@ -110,5 +111,5 @@ module _ (s : List ℕ) where
         by true e =
             let same : v ≡ value s = is ∙ rw e refl in
             let both = and-eq-true-iff (leb 1 (length s)) (well-begun s) .0 well in
-            ap Value same ∙ sym (rw (both .0, both .1, le-leb (length s) 10 few, e, le-leb (value s) 4294967295 (subst (λ (n : ℕ). n ≤ 4294967295) same least)))
-        by false e = absurd (let over : v ≡ 4294967296 = is ∙ rw e refl in omega arith)
+            ap Value same ∙ sym (rw (both .0, both .1, le-leb (length s) 10 few, e, le-leb (value s) largest-number (subst (λ (n : ℕ). n ≤ largest-number) same least)))
+        by false e = absurd (let over : v ≡ past-32-bits = is ∙ rw e refl in omega arith)

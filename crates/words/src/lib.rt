@@ -4,15 +4,13 @@ ghost use mathlib.Core.Path.{_≡_};
 ghost use Prim.Native.Nat.{_≤_};
 ghost use lib.Dec.{leb};
 ghost use lib.ListN.{length};
+ghost use Rattle.terms.specs.Terms.{past-32-bits};
 ghost use Rattle.words.specs.Words.{all-digits, well-begun, value, numeral, numeral-figures, same-bytes, begins};
 
 // How many digits a number may have, and the largest number.
 const MOST_DIGITS: usize = 10;
 
 const LARGEST: u64 = 4294967295;
-
-// What stands for a value that is no number's.
-const OVER: u64 = 4294967296;
 
 // A field read as a number.
 pub enum Numeral {
@@ -23,16 +21,16 @@ pub enum Numeral {
 // The value of up to ten digits, or one over the largest number if a byte is no digit.
 fn digits_value(s: &[u8]) -> u64
     requires { ⌜ length (now s) ≤ 10 ⌝ }
-    ensures { λ r. ⌜ r ≡ cond (all-digits (now (s .entry))) (value (now (s .entry))) 4294967296 ⌝ }
+    ensures { λ r. ⌜ r ≡ cond (all-digits (now (s .entry))) (value (now (s .entry))) past-32-bits ⌝ }
 {
     let mut v: u64 = 0;
     for i in 0..s.len() {
         let b = s[i];
         if b < b'0' {
-            return OVER;
+            return terms::PAST_32_BITS;
         }
         if b'9' < b {
-            return OVER;
+            return terms::PAST_32_BITS;
         }
         v = v * 10 + (b - b'0') as u64;
     }

@@ -31,25 +31,25 @@ returns c =
 
 returns-2 : tie.Need-returns-2
 returns-2 c =
-    let word = c .before in
-    let looked = word .before in
+    let packed = c .before in
+    let looked = packed .before in
     let due = looked .before .before in
     let place = due .before in
     let start = place .before .before in
     let asked = start .args in
     lower-one (asked .by-square) (asked .table .now) (asked .least) (asked .n) (asked .p) (place .either .result) (due .either2 .result)
-    (place .either .ensures) (due .either2 .ensures) (looked .if1 .left) (word .wrong-word .result) (word .wrong-word .ensures) (c .if2 .taken)
+    (place .either .ensures) (due .either2 .ensures) (looked .if1 .left) (packed .pack-wrong .result) (packed .pack-wrong .ensures) (c .if2 .taken)
 
 returns-3 : tie.Need-returns-3
 returns-3 c =
-    let word = c .before in
-    let looked = word .before in
+    let packed = c .before in
+    let looked = packed .before in
     let due = looked .before .before in
     let place = due .before in
     let start = place .before .before in
     let asked = start .args in
     higher-one (asked .by-square) (asked .table .now) (asked .least) (asked .n) (asked .p) (place .either .result) (due .either2 .result)
-    (place .either .ensures) (due .either2 .ensures) (looked .if1 .left) (word .wrong-word .result) (word .wrong-word .ensures) (c .if2 .left)
+    (place .either .ensures) (due .either2 .ensures) (looked .if1 .left) (packed .pack-wrong .result) (packed .pack-wrong .ensures) (c .if2 .left)
 
 pub compare-spec : {M : Type 1} → statement M
 compare-spec =

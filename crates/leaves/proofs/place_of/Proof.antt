@@ -4,6 +4,7 @@ use mathlib.Core.Bool.{Bool, true, false, cond}
 use mathlib.Core.Path.{_≡_, refl, ap, ap₂, subst⁻¹, _∙_}
 use Prim.Native.Nat.{ℕ, _+_, _*_, _<_}
 use native.Mathlib.Omega.{arith}
+use Rattle.terms.specs.Terms.{past-32-bits}
 use Rattle.division.specs.Division.{square}
 use Rattle.leaves.specs.Walk.{place}
 use Rattle.leaves.proofs.place_of.Statement.{statement}
@@ -28,7 +29,7 @@ add-result c =
     let given = start .args in
     let is =
     ap₂ (λ m n. m * given .w + n) (c .before .either .ensures) (c .either2 .ensures) ∙ place-by (given .along) (given .across) (given .turned) (given .w) in
-    record { fits = subst⁻¹ (λ (n : ℕ). n < 4294967296) is (start .pre) }
+    record { fits = subst⁻¹ (λ (n : ℕ). n < past-32-bits) is (start .pre) }
 
 returns : tie.Need-returns
 returns c =

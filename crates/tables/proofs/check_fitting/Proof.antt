@@ -6,8 +6,8 @@ use Rattle.tables.proofs.Judged.{right-is, wrong-is}
 use Rattle.tables.proofs.check_fitting.Statement.{statement}
 use Rattle.tables.proofs.check_fitting.Tie as tie
 
-mul-wrong-word : tie.Need-mul-wrong-word
-mul-wrong-word c = record { fits = squares-fit (c .before .before .pre) }
+mul-pack-wrong : tie.Need-mul-pack-wrong
+mul-pack-wrong c = record { fits = squares-fit (c .before .before .pre) }
 
 check-block-requires : tie.Need-check-block-requires
 check-block-requires c κs =
@@ -20,10 +20,10 @@ returns c =
     let block = checked .before in
     let start = block .before .before .before .before in
     let asked = start .args in
-    let word = block .before .wrong-word in
+    let none = block .before .pack-wrong in
     let least = checked .check-block in
-    right-is (asked .area .w) (asked .area .h) (asked .by-square) (asked .table .now) (start .pre) _ (block .whole-block .ensures) (word .result)
-    (word .ensures) (least .result) (least .ensures) (c .if1 .taken)
+    right-is (asked .area .w) (asked .area .h) (asked .by-square) (asked .table .now) (start .pre) _ (block .whole-block .ensures) (none .result)
+    (none .ensures) (least .result) (least .ensures) (c .if1 .taken)
 
 returns-2 : tie.Need-returns-2
 returns-2 c =
@@ -31,13 +31,13 @@ returns-2 c =
     let block = checked .before in
     let start = block .before .before .before .before in
     let asked = start .args in
-    let word = block .before .wrong-word in
+    let none = block .before .pack-wrong in
     let least = checked .check-block in
-    wrong-is (asked .area .w) (asked .area .h) (asked .by-square) (asked .table .now) (start .pre) _ (block .whole-block .ensures) (word .result)
-    (word .ensures) (least .result) (least .ensures) (c .before .if1 .left) (c .wrong-in .result)
-    (c .wrong-in .ensures)
+    wrong-is (asked .area .w) (asked .area .h) (asked .by-square) (asked .table .now) (start .pre) _ (block .whole-block .ensures) (none .result)
+    (none .ensures) (least .result) (least .ensures) (c .before .if1 .left) (c .unpack-wrong .result)
+    (c .unpack-wrong .ensures)
 
 pub check-fitting-spec : {M : Type 1} → statement M
 check-fitting-spec =
     tie.close
-    (tie.spec mul-wrong-word (λ c κs. search needs) (λ c κs. search needs) check-block-requires returns (λ c κs. search needs) returns-2)
+    (tie.spec mul-pack-wrong (λ c κs. search needs) (λ c κs. search needs) check-block-requires returns (λ c κs. search needs) returns-2)
