@@ -136,7 +136,8 @@ fn clerk_after(clerk: Clerk, line: &[u8], asked: Request) -> Clerk
 impl Clerk {
     // Takes a line, and hands the clerk back with the reply.
     pub fn handle(self, line: &[u8]) -> Handled
-        ensures { λ r. ⌜ (r .clerk ≡ after self (now (line .entry))) × (said (r .reply) ≡ reply self (now (line .entry))) ⌝ }
+        ensures clerk { λ r. ⌜ r .clerk ≡ after self (now (line .entry)) ⌝ }
+        ensures reply { λ r. ⌜ said (r .reply) ≡ reply self (now (line .entry)) ⌝ }
     {
         let asked = lines::request_of(line);
         let reply = reply_to(self, asked);

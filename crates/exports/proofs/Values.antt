@@ -60,15 +60,15 @@ found n figures s l e due r p last q = answer n s l (ap figures (sym e) ∙ due)
 -- A fill, by the list that is due: its slice for the count is too short, and the table is kept; or it is not.
 module _ (w h : ℕ) (due : ℕ → ℕ → List ℕ) (table slice : List ℕ) where
   pub fill-short : length slice < 1
-      → (255 ≡ returned 1 (fill w h table) slice) × (slice ≡ written 1 (fill w h table) slice) × (table ≡ filled (fill w h table) (due w h) table slice)
-  fill-short l = rw (lt-leb 1 (length slice) l) (refl, refl, refl)
+      → (255 ≡ returned 1 (fill w h table) slice) × ((slice ≡ written 1 (fill w h table) slice) × (table ≡ filled (fill w h table) (due w h) table slice))
+  fill-short l = rw (lt-leb 1 (length slice) l) (refl, (refl, refl))
 
   pub fill-told : 1 ≤ length slice → {g : Figures} → g ≡ fill w h table → (left : List ℕ) → left ≡ unless-refused (fill w h table) (due w h) table
       → (r : ℕ) → r ≡ g .refusal → (last : List ℕ) → last ≡ g .values ++ drop 1 slice
-      → (r ≡ returned 1 (fill w h table) slice) × (last ≡ written 1 (fill w h table) slice) × (left ≡ filled (fill w h table) (due w h) table slice)
+      → (r ≡ returned 1 (fill w h table) slice) × ((last ≡ written 1 (fill w h table) slice) × (left ≡ filled (fill w h table) (due w h) table slice))
   fill-told l e left f r p last q =
       let both = told 1 (λ g. g) slice (sym e) r p last q in
-      rw (le-leb 1 (length slice) l) (both .0, both .1, f)
+      rw (le-leb 1 (length slice) l) (both .0, (both .1, f))
 
 -- What the clerk hands back, as figures, is what is due of a clerk under the caller's area.
 abbrev pub shown-under : Area → Reply → Figures

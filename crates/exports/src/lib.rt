@@ -45,8 +45,8 @@ fn put_three(result: &mut [u32], x: u32, y: u32, z: u32)
 // x, y and the count of blocks of a number's square.
 #[no_mangle]
 pub extern "C" fn uvalinda_number_to_square(w: u32, h: u32, number: u32, result: &mut [u32]) -> u32
-    ensures { λ r. ⌜ (r ≡ returned 3 (number-to-square w h number) (now (result .entry)))
-        × (now (result .exit) ≡ written 3 (number-to-square w h number) (now (result .entry))) ⌝ }
+    ensures returned { λ r. ⌜ r ≡ returned 3 (number-to-square w h number) (now (result .entry)) ⌝ }
+    ensures values { λ r. ⌜ now (result .exit) ≡ written 3 (number-to-square w h number) (now (result .entry)) ⌝ }
 {
     if result.len() < 3 {
         return SHORT;
@@ -73,8 +73,8 @@ pub extern "C" fn uvalinda_square_to_number(
     y: u32,
     result: &mut [u32],
 ) -> u32
-    ensures { λ r. ⌜ (r ≡ returned 2 (square-to-number w h x y) (now (result .entry)))
-        × (now (result .exit) ≡ written 2 (square-to-number w h x y) (now (result .entry))) ⌝ }
+    ensures returned { λ r. ⌜ r ≡ returned 2 (square-to-number w h x y) (now (result .entry)) ⌝ }
+    ensures values { λ r. ⌜ now (result .exit) ≡ written 2 (square-to-number w h x y) (now (result .entry)) ⌝ }
 {
     if result.len() < 2 {
         return SHORT;
@@ -95,8 +95,8 @@ pub extern "C" fn uvalinda_square_to_number(
 // x and y of an area's finish square.
 #[no_mangle]
 pub extern "C" fn uvalinda_finish_square(w: u32, h: u32, result: &mut [u32]) -> u32
-    ensures { λ r. ⌜ (r ≡ returned 2 (finish-square w h) (now (result .entry)))
-        × (now (result .exit) ≡ written 2 (finish-square w h) (now (result .entry))) ⌝ }
+    ensures returned { λ r. ⌜ r ≡ returned 2 (finish-square w h) (now (result .entry)) ⌝ }
+    ensures values { λ r. ⌜ now (result .exit) ≡ written 2 (finish-square w h) (now (result .entry)) ⌝ }
 {
     if result.len() < 2 {
         return SHORT;
@@ -117,7 +117,8 @@ pub extern "C" fn uvalinda_finish_square(w: u32, h: u32, result: &mut [u32]) -> 
 // A fill's answer: its count of blocks to the first place.
 fn tell_fill(answer: FillAnswer, blocks: &mut [u64]) -> u32
     requires { ⌜ 1 ≤ length (now blocks) ⌝ }
-    ensures { λ r. ⌜ (r ≡ fill-figures answer .refusal) × (now (blocks .exit) ≡ fill-figures answer .values ++ drop 1 (now (blocks .entry))) ⌝ }
+    ensures returned { λ r. ⌜ r ≡ fill-figures answer .refusal ⌝ }
+    ensures count { λ r. ⌜ now (blocks .exit) ≡ fill-figures answer .values ++ drop 1 (now (blocks .entry)) ⌝ }
 {
     match answer {
         FillAnswer::Filled { blocks: count } => {
@@ -139,9 +140,9 @@ pub extern "C" fn uvalinda_fill_by_number(
     table: &mut [u32],
     blocks: &mut [u64],
 ) -> u32
-    ensures { λ r. ⌜ (r ≡ returned 1 (fill w h (now (table .entry))) (now (blocks .entry)))
-        × (now (blocks .exit) ≡ written 1 (fill w h (now (table .entry))) (now (blocks .entry)))
-        × (now (table .exit) ≡ filled (fill w h (now (table .entry))) (by-number w h) (now (table .entry)) (now (blocks .entry))) ⌝ }
+    ensures returned { λ r. ⌜ r ≡ returned 1 (fill w h (now (table .entry))) (now (blocks .entry)) ⌝ }
+    ensures count { λ r. ⌜ now (blocks .exit) ≡ written 1 (fill w h (now (table .entry))) (now (blocks .entry)) ⌝ }
+    ensures table { λ r. ⌜ now (table .exit) ≡ filled (fill w h (now (table .entry))) (by-number w h) (now (table .entry)) (now (blocks .entry)) ⌝ }
 {
     if blocks.len() < 1 {
         return SHORT;
@@ -158,9 +159,9 @@ pub extern "C" fn uvalinda_fill_by_square(
     table: &mut [u32],
     blocks: &mut [u64],
 ) -> u32
-    ensures { λ r. ⌜ (r ≡ returned 1 (fill w h (now (table .entry))) (now (blocks .entry)))
-        × (now (blocks .exit) ≡ written 1 (fill w h (now (table .entry))) (now (blocks .entry)))
-        × (now (table .exit) ≡ filled (fill w h (now (table .entry))) (by-square w h) (now (table .entry)) (now (blocks .entry))) ⌝ }
+    ensures returned { λ r. ⌜ r ≡ returned 1 (fill w h (now (table .entry))) (now (blocks .entry)) ⌝ }
+    ensures count { λ r. ⌜ now (blocks .exit) ≡ written 1 (fill w h (now (table .entry))) (now (blocks .entry)) ⌝ }
+    ensures table { λ r. ⌜ now (table .exit) ≡ filled (fill w h (now (table .entry))) (by-square w h) (now (table .entry)) (now (blocks .entry)) ⌝ }
 {
     if blocks.len() < 1 {
         return SHORT;
@@ -172,7 +173,8 @@ pub extern "C" fn uvalinda_fill_by_square(
 // A check's answer: 0 where the table is right, else 1, the first wrong place and the value due there.
 fn tell_check(answer: CheckAnswer, result: &mut [u32]) -> u32
     requires { ⌜ 3 ≤ length (now result) ⌝ }
-    ensures { λ r. ⌜ (r ≡ check-figures answer .refusal) × (now (result .exit) ≡ check-figures answer .values ++ drop 3 (now (result .entry))) ⌝ }
+    ensures returned { λ r. ⌜ r ≡ check-figures answer .refusal ⌝ }
+    ensures values { λ r. ⌜ now (result .exit) ≡ check-figures answer .values ++ drop 3 (now (result .entry)) ⌝ }
 {
     match answer {
         CheckAnswer::Right => {
@@ -193,8 +195,8 @@ fn tell_check(answer: CheckAnswer, result: &mut [u32]) -> u32
 // Checks a table by number.
 #[no_mangle]
 pub extern "C" fn uvalinda_check_by_number(w: u32, h: u32, table: &[u32], result: &mut [u32]) -> u32
-    ensures { λ r. ⌜ (r ≡ returned 3 (check w h (by-number w h) (now (table .entry))) (now (result .entry)))
-        × (now (result .exit) ≡ written 3 (check w h (by-number w h) (now (table .entry))) (now (result .entry))) ⌝ }
+    ensures returned { λ r. ⌜ r ≡ returned 3 (check w h (by-number w h) (now (table .entry))) (now (result .entry)) ⌝ }
+    ensures values { λ r. ⌜ now (result .exit) ≡ written 3 (check w h (by-number w h) (now (table .entry))) (now (result .entry)) ⌝ }
 {
     if result.len() < 3 {
         return SHORT;
@@ -206,8 +208,8 @@ pub extern "C" fn uvalinda_check_by_number(w: u32, h: u32, table: &[u32], result
 // Checks a table by square.
 #[no_mangle]
 pub extern "C" fn uvalinda_check_by_square(w: u32, h: u32, table: &[u32], result: &mut [u32]) -> u32
-    ensures { λ r. ⌜ (r ≡ returned 3 (check w h (by-square w h) (now (table .entry))) (now (result .entry)))
-        × (now (result .exit) ≡ written 3 (check w h (by-square w h) (now (table .entry))) (now (result .entry))) ⌝ }
+    ensures returned { λ r. ⌜ r ≡ returned 3 (check w h (by-square w h) (now (table .entry))) (now (result .entry)) ⌝ }
+    ensures values { λ r. ⌜ now (result .exit) ≡ written 3 (check w h (by-square w h) (now (table .entry))) (now (result .entry)) ⌝ }
 {
     if result.len() < 3 {
         return SHORT;
@@ -242,8 +244,8 @@ fn area_in_force(clerk: Clerk) -> Area
 // A reply under the area then in force: 1 for AREA, 2 for CELL, 3 for NUMBER, with its values, or a refusal.
 fn tell_reply(area: Area, reply: Reply, result: &mut [u32]) -> u32
     requires { ⌜ 6 ≤ length (now result) ⌝ }
-    ensures { λ r. ⌜ (r ≡ handled-figures area (said reply) .refusal)
-        × (now (result .exit) ≡ handled-figures area (said reply) .values ++ drop 6 (now (result .entry))) ⌝ }
+    ensures returned { λ r. ⌜ r ≡ handled-figures area (said reply) .refusal ⌝ }
+    ensures values { λ r. ⌜ now (result .exit) ≡ handled-figures area (said reply) .values ++ drop 6 (now (result .entry)) ⌝ }
 {
     match reply {
         Reply::AreaSet {
@@ -274,8 +276,8 @@ fn tell_reply(area: Area, reply: Reply, result: &mut [u32]) -> u32
 // Answers an order line under a caller's area, and says which area is then in force.
 #[no_mangle]
 pub extern "C" fn uvalinda_handle_line(w: u32, h: u32, line: &[u8], result: &mut [u32]) -> u32
-    ensures { λ r. ⌜ (r ≡ returned 6 (handled w h (now (line .entry))) (now (result .entry)))
-        × (now (result .exit) ≡ written 6 (handled w h (now (line .entry))) (now (result .entry))) ⌝ }
+    ensures returned { λ r. ⌜ r ≡ returned 6 (handled w h (now (line .entry))) (now (result .entry)) ⌝ }
+    ensures values { λ r. ⌜ now (result .exit) ≡ written 6 (handled w h (now (line .entry))) (now (result .entry)) ⌝ }
 {
     if result.len() < 6 {
         return SHORT;

@@ -12,7 +12,8 @@ ghost use Rattle.leaves.specs.Walk.{filled-with, Fits};
 // A block, its fields handed on one by one: handed on whole it would be copied at each call, which nearly doubles the time.
 pub fn fill_block(table: &mut [u32], k: Placed, area: Area, at: u32, by_square: bool) -> u64
     requires { ⌜ Fits (area .w) (area .h) (now table) (block k) at ⌝ }
-    ensures { λ r. ⌜ (now (table .exit) ≡ filled-with «by_square» (area .w) (now (table .entry)) (block k) at) × (r ≡ length (blocks (block k))) ⌝ }
+    ensures table { λ r. ⌜ now (table .exit) ≡ filled-with «by_square» (area .w) (now (table .entry)) (block k) at ⌝ }
+    ensures count { λ r. ⌜ r ≡ length (blocks (block k)) ⌝ }
 {
     fill_choice(
         table,
@@ -42,8 +43,8 @@ fn fill_choice(
     by_square: bool,
 ) -> u64
     requires { ⌜ Fits (area .w) (area .h) (now table) (block-at along across turned back a b) at ⌝ }
-    ensures { λ r. ⌜ (now (table .exit) ≡ filled-with «by_square» (area .w) (now (table .entry)) (block-at along across turned back a b) at)
-        × (r ≡ length (blocks (block-at along across turned back a b))) ⌝ }
+    ensures table { λ r. ⌜ now (table .exit) ≡ filled-with «by_square» (area .w) (now (table .entry)) (block-at along across turned back a b) at ⌝ }
+    ensures count { λ r. ⌜ r ≡ length (blocks (block-at along across turned back a b)) ⌝ }
 {
     let k = Placed {
         along,
@@ -78,7 +79,8 @@ fn fill_choice(
 // The two parts of a long cut.
 fn fill_long_cut(table: &mut [u32], k: Placed, area: Area, at: u32, by_square: bool) -> u64
     requires { ⌜ Fits (area .w) (area .h) (now table) (block k) at × (choice (k .a) (k .b) ≡ LongCut) ⌝ }
-    ensures { λ r. ⌜ (now (table .exit) ≡ filled-with «by_square» (area .w) (now (table .entry)) (block k) at) × (r ≡ length (blocks (block k))) ⌝ }
+    ensures table { λ r. ⌜ now (table .exit) ≡ filled-with «by_square» (area .w) (now (table .entry)) (block k) at ⌝ }
+    ensures count { λ r. ⌜ r ≡ length (blocks (block k)) ⌝ }
 {
     let to_second = at + division::even_half(k.a) * k.b;
     let first = fill_block(table, division::long_part(k, false), area, at, by_square);
@@ -95,7 +97,8 @@ fn fill_long_cut(table: &mut [u32], k: Placed, area: Area, at: u32, by_square: b
 // The three parts of a U cut.
 fn fill_u_cut(table: &mut [u32], k: Placed, area: Area, at: u32, by_square: bool) -> u64
     requires { ⌜ Fits (area .w) (area .h) (now table) (block k) at × (choice (k .a) (k .b) ≡ UCut) ⌝ }
-    ensures { λ r. ⌜ (now (table .exit) ≡ filled-with «by_square» (area .w) (now (table .entry)) (block k) at) × (r ≡ length (blocks (block k))) ⌝ }
+    ensures table { λ r. ⌜ now (table .exit) ≡ filled-with «by_square» (area .w) (now (table .entry)) (block k) at ⌝ }
+    ensures count { λ r. ⌜ r ≡ length (blocks (block k)) ⌝ }
 {
     let e = division::even_half(k.b);
     let to_b = at + e * (k.a / 2);

@@ -32,7 +32,8 @@ fn enter(table: &mut [u32], n: u32, p: u32, by_square: bool)
 // The squares of a straight block, which follow in its run.
 pub fn fill_run(table: &mut [u32], k: Placed, area: Area, at: u32, by_square: bool) -> u64
     requires { ⌜ Fits (area .w) (area .h) (now table) (block k) at × (choice (k .a) (k .b) ≡ StraightRun) ⌝ }
-    ensures { λ r. ⌜ (now (table .exit) ≡ filled-with «by_square» (area .w) (now (table .entry)) (block k) at) × (r ≡ length (blocks (block k))) ⌝ }
+    ensures table { λ r. ⌜ now (table .exit) ≡ filled-with «by_square» (area .w) (now (table .entry)) (block k) at ⌝ }
+    ensures count { λ r. ⌜ r ≡ length (blocks (block k)) ⌝ }
 {
     let w = area.w;
     for i in 0..k.a {
@@ -74,7 +75,8 @@ struct Rung {
 // The two that lie v along its side.
 fn rung_at(k: Placed, v: u32, area: Area) -> Rung
     requires { ⌜ Inside (area .w) (area .h) (block k) × (area .w ≤ longest-side) × (area .h ≤ longest-side) × (k .a ≡ 2) × (v < k .b) ⌝ }
-    ensures { λ r. ⌜ (r .near ≡ place (area .w) (near (block k) v)) × (r .far ≡ place (area .w) (far (block k) v)) ⌝ }
+    ensures near { λ r. ⌜ r .near ≡ place (area .w) (near (block k) v) ⌝ }
+    ensures far { λ r. ⌜ r .far ≡ place (area .w) (far (block k) v) ⌝ }
 {
     let w = area.w;
     let beyond = division::stepped(k.along, 1, k.back);
@@ -88,7 +90,8 @@ fn rung_at(k: Placed, v: u32, area: Area) -> Rung
 // A block 2 wide and 2 or 3 deep, at once, up its side and down again: most of a large area's squares lie in one.
 pub fn fill_leaf(table: &mut [u32], k: Placed, area: Area, at: u32, by_square: bool) -> u64
     requires { ⌜ Fits (area .w) (area .h) (now table) (block k) at × (k .a ≡ 2) × (2 ≤ k .b) × (k .b ≤ 3) ⌝ }
-    ensures { λ r. ⌜ (now (table .exit) ≡ filled-with «by_square» (area .w) (now (table .entry)) (block k) at) × (r ≡ length (blocks (block k))) ⌝ }
+    ensures table { λ r. ⌜ now (table .exit) ≡ filled-with «by_square» (area .w) (now (table .entry)) (block k) at ⌝ }
+    ensures count { λ r. ⌜ r ≡ length (blocks (block k)) ⌝ }
 {
     let deep = k.b;
     let low = rung_at(k, 0, area);

@@ -59,8 +59,9 @@ fn judge_table(area: Area, places: usize) -> Judgement
 
 // Fills a table of either kind for a whole area.
 fn fill_whole(area: Area, table: &mut [u32], by_square: bool) -> FillAnswer
-    ensures { λ r. ⌜ (fill-figures r ≡ fill (area .w) (area .h) (now (table .entry)))
-        × (now (table .exit) ≡ unless-refused (fill (area .w) (area .h) (now (table .entry))) (due-by «by_square» (area .w) (area .h)) (now (table .entry))) ⌝ }
+    ensures answer { λ r. ⌜ fill-figures r ≡ fill (area .w) (area .h) (now (table .entry)) ⌝ }
+    ensures table { λ r. ⌜ now (table .exit)
+        ≡ unless-refused (fill (area .w) (area .h) (now (table .entry))) (due-by «by_square» (area .w) (area .h)) (now (table .entry)) ⌝ }
 {
     match judge_table(area, table.len()) {
         Judgement::Refused(r) => FillAnswer::Refused(r),
@@ -73,16 +74,18 @@ fn fill_whole(area: Area, table: &mut [u32], by_square: bool) -> FillAnswer
 
 // Place i gets y·w + x of square number i.
 pub fn fill_by_number(area: Area, table: &mut [u32]) -> FillAnswer
-    ensures { λ r. ⌜ (fill-figures r ≡ fill (area .w) (area .h) (now (table .entry)))
-        × (now (table .exit) ≡ unless-refused (fill (area .w) (area .h) (now (table .entry))) (by-number (area .w) (area .h)) (now (table .entry))) ⌝ }
+    ensures answer { λ r. ⌜ fill-figures r ≡ fill (area .w) (area .h) (now (table .entry)) ⌝ }
+    ensures table { λ r. ⌜ now (table .exit)
+        ≡ unless-refused (fill (area .w) (area .h) (now (table .entry))) (by-number (area .w) (area .h)) (now (table .entry)) ⌝ }
 {
     fill_whole(area, table, false)
 }
 
 // Place y·w + x gets the square's number.
 pub fn fill_by_square(area: Area, table: &mut [u32]) -> FillAnswer
-    ensures { λ r. ⌜ (fill-figures r ≡ fill (area .w) (area .h) (now (table .entry)))
-        × (now (table .exit) ≡ unless-refused (fill (area .w) (area .h) (now (table .entry))) (by-square (area .w) (area .h)) (now (table .entry))) ⌝ }
+    ensures answer { λ r. ⌜ fill-figures r ≡ fill (area .w) (area .h) (now (table .entry)) ⌝ }
+    ensures table { λ r. ⌜ now (table .exit)
+        ≡ unless-refused (fill (area .w) (area .h) (now (table .entry))) (by-square (area .w) (area .h)) (now (table .entry)) ⌝ }
 {
     fill_whole(area, table, true)
 }

@@ -13,8 +13,8 @@ module _ {A B : Type 0} {r s d : A} {l m e : B} where
 
 module _ {A B C : Type 0} {r s d : A} {l m e : B} {t u f : C} where
   -- what is returned, and what is left in two slices
-  pub three-equations : (r ≡ d) × (l ≡ e) × (t ≡ f) → (s ≡ d) × (m ≡ e) × (u ≡ f) → (r ≡ s) × (l ≡ m) × (t ≡ u)
-  three-equations p q = (one-equation (p .0) (q .0), one-equation (p .1) (q .1), one-equation (p .2) (q .2))
+  pub three-equations : (r ≡ d) × ((l ≡ e) × (t ≡ f)) → (s ≡ d) × ((m ≡ e) × (u ≡ f)) → (r ≡ s) × ((l ≡ m) × (t ≡ u))
+  three-equations p q = (one-equation (p .0) (q .0), two-equations (p .1) (q .1))
 
 -- an answer that can be told from its figures
 pub by-figures : {A B : Type 0} (figures : A → B) (back : B → A) → ((r : A) → back (figures r) ≡ r) → (r s : A) {f : B} → figures r ≡ f → figures s ≡ f → r ≡ s
