@@ -2,11 +2,11 @@
 use mathlib.Core.Bool.{true, false}
 use mathlib.Core.List.{[], _∷_}
 use mathlib.Core.Path.{_≡_, ap}
-use Prim.Native.Nat.{ℕ, _+_, _-_, _*_, _≤_, _<_}
+use Prim.Native.Nat.{ℕ, _-_, _*_, _≤_, _<_}
 use native.Mathlib.Omega.{arith}
-use borrow.Author.Tests.{lt-ltb, le-ltb, le-leb, lt-leb}
+use borrow.Author.Tests.{lt-ltb, le-ltb}
 use Rattle.terms.specs.declared.Refusal.{Refusal}
-use Rattle.terms.specs.declared.Refusal.the-variants.{SquareOutside, NumberOutside, TooDeep}
+use Rattle.terms.specs.declared.Refusal.the-variants.{SquareOutside, NumberOutside}
 use Rattle.terms.specs.Terms.{accepted, area-refusal, answered, refused}
 use Rattle.terms.proofs.Laws.{Limits, limits, squares-limit}
 use Rattle.division.specs.Division.{Square, square, whole, square-of, number-of, blocks-holding}

@@ -108,7 +108,7 @@ module _ {k : Block} {i above : ℕ} (r : Descends k i above) where
   alone e = straight-holding k (square-of k i) (r .inside .sized) e (square-held longest-side longest-side k (r .inside) i (r .below))
 
   module _ (c : choice (k .a) (k .b) ≡ StraightRun) where
-    pub run-below : i < k .a
+    run-below : i < k .a
     run-below = subst (λ (n : ℕ). i < n) (ap (λ n. k .a * n) (run-length k (r .inside .sized) c) ∙ mul-one (k .a)) (r .below)
 
     run-alone : blocks-holding k (square-of k i) ≡ 1
@@ -123,7 +123,7 @@ module _ {k : Block} {i above : ℕ} (r : Descends k i above) where
         ap₂ square-packed (sym (run-square k (rule k StraightRun (r .inside .sized) c .0) i run-below)) (ap (λ n. above + n) (sym run-alone))
 
   module _ (c : choice (k .a) (k .b) ≡ StraightSide) where
-    pub side-below : i < k .b
+    side-below : i < k .b
     side-below = subst (λ (n : ℕ). i < n) (ap (λ n. n * k .b) (side-length k (r .inside .sized) c) ∙ one-mul (k .b)) (r .below)
 
     side-alone : blocks-holding k (square-of k i) ≡ 1

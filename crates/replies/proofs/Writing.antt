@@ -12,7 +12,7 @@ use lib.Seq.{sets, sets-eq, length-sets, take-suc, take-length, length-take-le, 
 use Rattle.terms.specs.Terms.{past-32-bits}
 use Rattle.words.specs.Decimal.{decimal}
 use Rattle.words.proofs.Decimals.{ten-digits, digits-more}
-use Rattle.replies.specs.Text.{spaced, all-spaced, longest, Writes, if-room}
+use Rattle.replies.specs.Text.{spaced, all-spaced, longest, longest-spaced, Writes, if-room}
 
 sets-append : (t : List ℕ) (i : ℕ) (xs ys : List ℕ) → sets t i (xs ++ ys) ≡ sets (sets t i xs) (i + length xs) ys
 sets-append t i [] ys = ap (λ n. sets t n ys) (sym (add-zero i))
@@ -73,19 +73,19 @@ writes-all {t} {t′} {at} s i e w =
 -- the numbers that are written so far, from a place on, with at most 11 bytes for each, and the room for them all
 pub record Numbered (t : List ℕ) (from : ℕ) (ns t′ : List ℕ) (end i : ℕ) : Type 0 where
   pub so-far : Writes t from (all-spaced (take i ns)) t′ end
-  pub near : end ≤ from + 11 * i
+  pub near : end ≤ from + longest-spaced * i
   pub among : i ≤ length ns
-  pub room : from + 11 * length ns ≤ length t
+  pub room : from + longest-spaced * length ns ≤ length t
 
 all-spaced-last : (ns : List ℕ) (n : ℕ) → all-spaced (ns ++ (n ∷ [])) ≡ all-spaced ns ++ spaced n
 all-spaced-last [] n = append-nil (spaced n)
 all-spaced-last (m ∷ ns) n = ap (spaced m ++_) (all-spaced-last ns n) ∙ sym (append-assoc (spaced m) (all-spaced ns) (spaced n))
 
-pub numbered-none : {t : List ℕ} {from : ℕ} {ns : List ℕ} → from + 11 * length ns ≤ length t → Numbered t from ns t from 0
+pub numbered-none : {t : List ℕ} {from : ℕ} {ns : List ℕ} → from + longest-spaced * length ns ≤ length t → Numbered t from ns t from 0
 numbered-none {t} {from} room = record { so-far = writes-none t from; near = omega arith; among = omega arith; room = room }
 
 pub numbered-next : {t ns t′ t″ : List ℕ} {from end end′ i : ℕ} → Numbered t from ns t′ end i → i < length ns
-    → Writes t′ end (spaced (getD ns i 0)) t″ end′ → end′ ≤ end + 11 → Numbered t from ns t″ end′ (i + 1)
+    → Writes t′ end (spaced (getD ns i 0)) t″ end′ → end′ ≤ end + longest-spaced → Numbered t from ns t″ end′ (i + 1)
 numbered-next {t} {ns} {t′} {t″} {from} {end} {end′} {i} before more next few =
     let on : i + 1 ≡ suc i = omega arith in
     let all : all-spaced (take (i + 1) ns) ≡ all-spaced (take i ns) ++ spaced (getD ns i 0) =
@@ -93,7 +93,7 @@ numbered-next {t} {ns} {t′} {t″} {from} {end} {end′} {i} before more next 
     record { so-far = rw all (writes-both (before .so-far) next); near = omega arith; among = omega arith; room = before .room }
 
 pub numbered-all : {t ns t′ : List ℕ} {from end i : ℕ} → Numbered t from ns t′ end i → length ns ≤ i
-    → Writes t from (all-spaced ns) t′ end × (end ≤ from + 11 * length ns)
+    → Writes t from (all-spaced ns) t′ end × (end ≤ from + longest-spaced * length ns)
 numbered-all {t} {ns} {t′} {from} {end} {i} done last =
     let all : i ≡ length ns = omega arith in
     let same : take i ns ≡ ns = ap (λ n. take n ns) all ∙ take-length ns in

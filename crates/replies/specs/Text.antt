@@ -36,9 +36,15 @@ text line s = decimal line ++ (body s ++ (10 ∷ []))
 unfoldable pub stop : (line : ℕ) → List ℕ
 stop line = decimal line ++ bytes " STOP\n"
 
--- No text of a 32-bit line number and 32-bit numbers is longer than this.
+-- No text of a 32-bit line number and 32-bit numbers is longer than this; nor one of these numbers with its space, nor a reply's word with its numbers.
 abbrev pub longest : ℕ
 longest = 71
+
+abbrev pub longest-spaced : ℕ
+longest-spaced = 11
+
+abbrev pub longest-body : ℕ
+longest-body = 60
 
 -- A buffer with bytes written at a place, and the place after them.
 pub record Writes (before : List ℕ) (at : ℕ) (bytes after : List ℕ) (end : ℕ) : Type 0 where

@@ -7,7 +7,7 @@ ghost use lib.Dec.{leb};
 ghost use lib.ListN.{length};
 ghost use Rattle.clerk.specs.Clerk.{said};
 ghost use Rattle.words.specs.Decimal.{decimal};
-ghost use Rattle.replies.specs.Text.{spaced, all-spaced, body, text, stop, longest, Writes, if-room};
+ghost use Rattle.replies.specs.Text.{spaced, all-spaced, body, text, stop, longest, longest-spaced, longest-body, Writes, if-room};
 
 // The longest text: a line's number and a reply with five numbers, each of ten digits.
 const LONGEST: usize = 71;
@@ -39,9 +39,9 @@ fn put_number(out: &mut [u8], at: usize, n: u32) -> usize
 
 // A space and a number.
 fn put_spaced(out: &mut [u8], at: usize, n: u32) -> usize
-    requires { ⌜ at + 11 ≤ length (now out) ⌝ }
+    requires { ⌜ at + longest-spaced ≤ length (now out) ⌝ }
     ensures written { λ r. ⌜ Writes (now (out .entry)) at (spaced n) (now (out .exit)) r ⌝ }
-    ensures near { λ r. ⌜ r ≤ at + 11 ⌝ }
+    ensures near { λ r. ⌜ r ≤ at + longest-spaced ⌝ }
 {
     out[at] = b' ';
     put_number(out, at + 1, n)
@@ -49,9 +49,9 @@ fn put_spaced(out: &mut [u8], at: usize, n: u32) -> usize
 
 // A word and numbers, each number after a space.
 fn put_said(out: &mut [u8], at: usize, word: &[u8], numbers: &[u32]) -> usize
-    requires { ⌜ at + length (now word) + 11 * length (now numbers) ≤ length (now out) ⌝ }
+    requires { ⌜ at + length (now word) + longest-spaced * length (now numbers) ≤ length (now out) ⌝ }
     ensures written { λ r. ⌜ Writes (now (out .entry)) at (now (word .entry) ++ all-spaced (now (numbers .entry))) (now (out .exit)) r ⌝ }
-    ensures near { λ r. ⌜ r ≤ at + length (now (word .entry)) + 11 * length (now (numbers .entry)) ⌝ }
+    ensures near { λ r. ⌜ r ≤ at + length (now (word .entry)) + longest-spaced * length (now (numbers .entry)) ⌝ }
 {
     let mut end = put_bytes(out, at, word);
     for i in 0..numbers.len() {
@@ -62,9 +62,9 @@ fn put_said(out: &mut [u8], at: usize, word: &[u8], numbers: &[u32]) -> usize
 
 // A reply's word and numbers.
 fn put_body(out: &mut [u8], at: usize, reply: Reply) -> usize
-    requires { ⌜ at + 60 ≤ length (now out) ⌝ }
+    requires { ⌜ at + longest-body ≤ length (now out) ⌝ }
     ensures written { λ r. ⌜ Writes (now (out .entry)) at (body (said reply)) (now (out .exit)) r ⌝ }
-    ensures near { λ r. ⌜ r ≤ at + 60 ⌝ }
+    ensures near { λ r. ⌜ r ≤ at + longest-body ⌝ }
 {
     match reply {
         Reply::AreaSet {

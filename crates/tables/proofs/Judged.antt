@@ -9,15 +9,13 @@ use native.Mathlib.Omega.{arith}
 use borrow.Author.Tests.{eq-eqb, ne-eqb, eqb-true, eqb-false}
 use lib.Dec.{eqb}
 use lib.ListN.{length, getD}
-use Rattle.terms.specs.Terms.{past-32-bits, accepted, answered}
-use Rattle.terms.proofs.Laws.{limits, squares-limit}
+use Rattle.terms.specs.Terms.{past-32-bits, answered}
 use Rattle.division.specs.Division.{Block, whole}
-use Rattle.tables.specs.Tables.{judged, due-by, check}
+use Rattle.tables.specs.Tables.{judged, due-by}
 use Rattle.leaves.specs.declared.Wrong.{Wrong}
 use Rattle.leaves.specs.Walk.{wrong-packed, wrong-unpacked, checked, Fits}
 use Rattle.leaves.proofs.Entries.{either-below, squares-fit}
 use Rattle.leaves.proofs.Checks.{taken-out, over-below, over-some}
-use Rattle.tables.proofs.Whole.{taken}
 use Rattle.tables.proofs.PlaceByPlace.{ps, ps-length, values-below, due-there, looked-for, looked-below, looked-at, due-length}
 
 abbrev Same : (ds vs : List ℕ) → ℕ → Type 0
