@@ -7,9 +7,9 @@
  * What a call returns: 0, or the number of a refusal (UVALINDA_AREA_LIMIT and so on), or UVALINDA_SHORT_RESULT.
  *
  * What a call writes: its values go to the first places of `result` (of `blocks`, for a fill), in the order given with each call. At a refusal
- * each of them is 0, except those that the call says it tells beside a refusal, and a table is left as it was. Places after the values are never
- * written. Where there are fewer places than values, the call writes nothing, fills nothing and returns UVALINDA_SHORT_RESULT, whatever else
- * there is to refuse.
+ * each of them is 0, except those that the call says it tells beside a refusal (the area in force, see uvalinda_handle_line), and a table is left
+ * as it was. Places after the values are never written. Where there are fewer places than values, the call writes nothing, fills nothing and
+ * returns UVALINDA_SHORT_RESULT, whatever else there is to refuse.
  *
  * Who owns what: every pointer is lent for the time of the call. The library keeps nothing, allocates nothing and has no state, so calls from
  * several threads do not disturb each other; a fill or a check of the largest area takes under 8 KB of stack on x86-64. A pointer is followed by its

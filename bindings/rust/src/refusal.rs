@@ -1,7 +1,7 @@
 //! The refusals by name and number.
 use core::fmt;
 
-// The one list of them: number, name, when it is given, and what it says of itself. Each pattern below also takes a name that carries a value.
+// The one list of them: number, name, when it is given, and what it says of itself.
 macro_rules! refusals {
     ($($number:literal $name:ident: $when:literal, $says:literal;)*) => {
         /// Why a call or a line is refused. `u32::from` gives the number that `orders` prints.

@@ -124,7 +124,7 @@ fn clerk_after(clerk: Clerk, line: &[u8], asked: Request) -> Clerk
     match asked {
         Request::SetArea { w, h } => clerk_under(Area { w: w, h: h }),
         Request::Refused(_) => {
-            if words::begins_with(line, b"AREA") {
+            if lines::begins_area(line) {
                 return Clerk::NoArea;
             }
             clerk

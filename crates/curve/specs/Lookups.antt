@@ -4,7 +4,7 @@ use mathlib.Core.List.{List, [], _∷_}
 use Prim.Native.Nat.{ℕ, _-_, _*_}
 use lib.Dec.{leb, ltb}
 use Rattle.terms.specs.declared.Refusal.the-variants.{SquareOutside, NumberOutside, TooDeep}
-use Rattle.terms.specs.Terms.{Figures, answered, refused, on-area}
+use Rattle.terms.specs.Terms.{most-blocks, Figures, answered, refused, on-area}
 use Rattle.division.specs.Division.{square, whole, square-of, number-of, blocks-holding}
 use Rattle.curve.specs.declared.SquareAnswer as SquareAnswers
 use Rattle.curve.specs.declared.NumberAnswer as NumberAnswers
@@ -13,7 +13,7 @@ use Rattle.curve.specs.declared.FinishAnswer as FinishAnswers
 -- "9: a descent would open a 65th block, that is, over 64 blocks of the division hold one and the same square that the call needs". The figures
 -- of an answer whose square n blocks hold, else that refusal with as many values 0.
 abbrev pub unless-deep : (n : ℕ) → List ℕ → (values : ℕ) → Figures
-unless-deep n answer values = cond (leb n 64) (answered answer) (refused TooDeep values)
+unless-deep n answer values = cond (leb n most-blocks) (answered answer) (refused TooDeep values)
 
 -- "number to square: x, y; blocks of the division that hold that square". "For library calls the order is 1, then whichever of 2, 3, 4 belongs to
 -- the call, then 9."

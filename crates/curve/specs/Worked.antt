@@ -40,14 +40,18 @@ worked =
     ∷ number-refused 5 0 0 1
     ∷ number-refused 65536 1 65536 1
     ∷ number-refused 1 65536 65536 1
+    ∷ number-refused 0 0 0 1
+    ∷ number-refused 65536 65536 0 1
     ∷ square-refused 0 5 0 0 1
     ∷ square-refused 5 0 0 0 1
     ∷ square-refused 65536 1 65536 0 1
     ∷ square-refused 1 65536 1 0 1
+    ∷ square-refused 65536 65536 0 0 1
     ∷ finish-refused 0 5 1
     ∷ finish-refused 5 0 1
     ∷ finish-refused 65536 1 1
     ∷ finish-refused 1 65536 1
+    ∷ finish-refused 65536 65536 1
     -- "number >= w·h"
     ∷ number-refused 3 4 12 3
     ∷ number-refused 3 4 4294967295 3

@@ -42,7 +42,8 @@ enters k inside before q after e i j sum below =
 
 -- the first part of a long cut has the numbers below the even half of a times b, the second the rest
 pub long-enters :
-    (k : Block) (i : ℕ) → Inside longest-side longest-side k → i < area k → choice (k .a) (k .b) ≡ LongCut → (second : Bool) → leb (even-half (k .a) * k .b) i ≡ second
+    (k : Block) (i : ℕ) → Inside longest-side longest-side k → i < area k → choice (k .a) (k .b) ≡ LongCut → (second : Bool) →
+    leb (even-half (k .a) * k .b) i ≡ second
     → Enters k i (part (cond second Second First) k) (i - cond second (even-half (k .a)) 0 * k .b)
 unfolding parts-of part
 long-enters k i inside l e true t =

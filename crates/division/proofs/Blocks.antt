@@ -213,4 +213,5 @@ demand-3 w h a b p = bounded w h (whole w h) (whole-inside w h a b) p .bound
 pub at-most-54 : (w h : ℕ) → 1 ≤ w → w ≤ longest-side → 1 ≤ h → h ≤ longest-side → (p : Square) → blocks-holding (whole w h) p ≤ 54
 unfolding whole
 at-most-54 w h a w-limit b h-limit p =
-    held-by-at-most (longest-side * longest-side) 54 (lit< tt) (whole w h) p (bounded w h (whole w h) (whole-inside w h a b) p) (lit≤ tt) (mul-le-mul w-limit h-limit)
+    held-by-at-most (longest-side * longest-side) 54 (lit< tt) (whole w h) p (bounded w h (whole w h) (whole-inside w h a b) p) (lit≤ tt)
+    (mul-le-mul w-limit h-limit)

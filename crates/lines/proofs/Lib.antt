@@ -1,4 +1,4 @@
-pub mod Words
+pub mod FieldEnds
 pub mod Shapes
 pub mod Sequence
 pub mod Asking

@@ -14,7 +14,7 @@ use Rattle.lines.specs.declared.fields.Field.{Field}
 use Rattle.lines.specs.declared.Request.the-variants.{Refused}
 use Rattle.lines.specs.Lines.{onto, fields, shaped, request}
 use Rattle.lines.specs.Reading.{word, none, field-at, piece, made-of-three, three-read}
-use Rattle.lines.proofs.Words.{end-from, end-past}
+use Rattle.lines.proofs.FieldEnds.{end-from, end-past}
 
 -- a line's first field, and the rest
 abbrev pub rest : List ℕ → List (List ℕ)

@@ -5,7 +5,8 @@ mod requests;
 
 use terms::Refusal;
 ghost use mathlib.Core.Path.{_≡_};
-ghost use Rattle.lines.specs.Lines.{request, asked};
+ghost use Rattle.words.specs.Words.{begins};
+ghost use Rattle.lines.specs.Lines.{AREA, request, asked};
 
 // How many bytes a line may have.
 const MOST_BYTES: usize = 64;
@@ -16,6 +17,13 @@ pub enum Request {
     AskNumber { i: u32 },
     AskSquare { x: u32, y: u32 },
     Refused(Refusal),
+}
+
+// Whether a line begins with the bytes of AREA, whatever it asks.
+pub fn begins_area(line: &[u8]) -> bool
+    ensures { λ r. ⌜ r ≡ begins (now (line .entry)) AREA ⌝ }
+{
+    words::begins_with(line, b"AREA")
 }
 
 // What a line asks, whatever its bytes are.

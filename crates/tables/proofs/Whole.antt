@@ -14,9 +14,9 @@ use Rattle.terms.proofs.Laws.{limits, refusal-some}
 use Rattle.division.specs.Division.{Block, whole, curve, blocks-holding, count}
 use Rattle.division.proofs.Blocks.{whole-inside, at-most-54}
 use Rattle.leaves.specs.Walk as Walks
-use Rattle.tables.specs.declared.Judgement.{Judgement}
-use Rattle.tables.specs.declared.Judgement.the-variants.{Fits, Refused}
-use Rattle.tables.specs.Tables.{some-deep, table-judged, as-judged, on-table, unless-refused}
+use Rattle.tables.specs.declared.Admission.{Admission}
+use Rattle.tables.specs.declared.Admission.the-variants.{Granted, Refused}
+use Rattle.tables.specs.Tables.{some-deep, admission, as-admitted, on-table, unless-refused}
 
 none-counted : {X : Type 0} (f : X → Bool) (zs : List X) → ((z : X) → f z ≡ false) → count f zs ≡ 0
 unfolding count
@@ -36,34 +36,34 @@ not-deep w h ok =
 
 -- what a table that is judged so is answered
 module _ (w h : ℕ) (t : List ℕ) (n : ℕ) (answer : Figures) where
-  pub judged-refused : (r : Refusal) → Refused r ≡ table-judged w h (length t) → refused r n ≡ on-table w h t n answer
+  pub admission-refused : (r : Refusal) → Refused r ≡ admission w h (length t) → refused r n ≡ on-table w h t n answer
   unfolding on-table
-  judged-refused r e = ap (λ j. as-judged j w h n answer) e
+  admission-refused r e = ap (λ j. as-admitted j w h n answer) e
 
   pub area-refused : accepted w h ≡ false → refused (area-refusal w h) n ≡ on-table w h t n answer
-  area-refused bad = judged-refused (area-refusal w h) (sym (rw bad refl))
+  area-refused bad = admission-refused (area-refusal w h) (sym (rw bad refl))
 
   pub length-refused : accepted w h ≡ true → (length t ≡ w * h → ⊥) → refused TableLength n ≡ on-table w h t n answer
-  length-refused ok other = judged-refused TableLength (sym (rw (ok, ne-eqb (length t) (w * h) other) refl))
+  length-refused ok other = admission-refused TableLength (sym (rw (ok, ne-eqb (length t) (w * h) other) refl))
 
   pub taken : accepted w h ≡ true → length t ≡ w * h → on-table w h t n answer ≡ answer
   unfolding on-table
   taken ok size = rw (ok, eq-eqb (length t) (w * h) size, not-deep w h ok)
 
 -- a table that fits: its area is accepted, and it has w·h places
-refusing : Judgement → ℕ
-refusing Fits = 0
+refusing : Admission → ℕ
+refusing Granted = 0
 refusing (Refused r) = 1
 
-fits-by : (w h places : ℕ) (a b : Bool) → accepted w h ≡ a → eqb places (w * h) ≡ b → Fits ≡ table-judged w h places
+fits-by : (w h places : ℕ) (a b : Bool) → accepted w h ≡ a → eqb places (w * h) ≡ b → Granted ≡ admission w h places
     → (accepted w h ≡ true) × (places ≡ w * h)
 unfolding refusing
 fits-by w h places true true p q e = (p, eqb-true places (w * h) q)
-fits-by w h places true false p q e = let other : refusing (table-judged w h places) ≡ 1 = rw (p, q) refl in absurd (omega (arith, ap refusing e))
-fits-by w h places false b p q e = let other : refusing (table-judged w h places) ≡ 1 = rw p refl in absurd (omega (arith, ap refusing e))
+fits-by w h places true false p q e = let other : refusing (admission w h places) ≡ 1 = rw (p, q) refl in absurd (omega (arith, ap refusing e))
+fits-by w h places false b p q e = let other : refusing (admission w h places) ≡ 1 = rw p refl in absurd (omega (arith, ap refusing e))
 
-pub judged-fits : (w h places : ℕ) → Fits ≡ table-judged w h places → (accepted w h ≡ true) × (places ≡ w * h)
-judged-fits w h places = fits-by w h places (accepted w h) (eqb places (w * h)) refl refl
+pub admission-granted : (w h places : ℕ) → Granted ≡ admission w h places → (accepted w h ≡ true) × (places ≡ w * h)
+admission-granted w h places = fits-by w h places (accepted w h) (eqb places (w * h)) refl refl
 
 -- a refused table is kept, and one that is answered is filled
 pub kept : (r : Refusal) (n : ℕ) {f : Figures} (filled t : List ℕ) → refused r n ≡ f → t ≡ unless-refused f filled t

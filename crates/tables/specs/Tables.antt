@@ -5,10 +5,10 @@ use Prim.Native.Nat.{ℕ, zero, suc, _+_, _*_, _/_, _%_}
 use lib.Dec.{ltb, eqb}
 use lib.ListN.{length}
 use Rattle.terms.specs.declared.Refusal.the-variants.{TableLength, TooDeep}
-use Rattle.terms.specs.Terms.{accepted, area-refusal, Figures, answered, refused}
+use Rattle.terms.specs.Terms.{most-blocks, accepted, area-refusal, Figures, answered, refused}
 use Rattle.division.specs.Division.{square, whole, curve, blocks, square-of, number-of, blocks-holding, count}
-use Rattle.tables.specs.declared.Judgement.{Judgement}
-use Rattle.tables.specs.declared.Judgement.the-variants.{Fits, Refused}
+use Rattle.tables.specs.declared.Admission.{Admission}
+use Rattle.tables.specs.declared.Admission.the-variants.{Granted, Refused}
 use Rattle.tables.specs.declared.FillAnswer as FillAnswers
 use Rattle.tables.specs.declared.CheckAnswer as CheckAnswers
 
@@ -27,20 +27,20 @@ by-square w h = places (λ p. number-of (whole w h) (square (p % w) (p / w))) (w
 
 -- "9: over 64 blocks of the division hold one and the same square that the call needs": a table needs every square of its area.
 unfoldable pub some-deep : (w h : ℕ) → Bool
-some-deep w h = ltb 0 (count (λ s. ltb 64 (blocks-holding (whole w h) s)) (curve (whole w h)))
+some-deep w h = ltb 0 (count (λ s. ltb most-blocks (blocks-holding (whole w h) s)) (curve (whole w h)))
 
 -- "A table's length must be exactly w·h." The area comes first.
-abbrev pub table-judged : (w h places : ℕ) → Judgement
-table-judged w h places = cond (accepted w h) (cond (eqb places (w * h)) Fits (Refused TableLength)) (Refused (area-refusal w h))
+abbrev pub admission : (w h places : ℕ) → Admission
+admission w h places = cond (accepted w h) (cond (eqb places (w * h)) Granted (Refused TableLength)) (Refused (area-refusal w h))
 
 -- "For library calls the order is 1, then whichever of 2, 3, 4 belongs to the call, then 9." What a call on a table answers, where n values would be
 -- answered, and what is left of a table that it fills: "the table is unaltered".
-abbrev pub as-judged : Judgement → (w h n : ℕ) → Figures → Figures
-as-judged Fits w h n answer = cond (some-deep w h) (refused TooDeep n) answer
-as-judged (Refused r) w h n answer = refused r n
+abbrev pub as-admitted : Admission → (w h n : ℕ) → Figures → Figures
+as-admitted Granted w h n answer = cond (some-deep w h) (refused TooDeep n) answer
+as-admitted (Refused r) w h n answer = refused r n
 
 unfoldable pub on-table : (w h : ℕ) → List ℕ → (n : ℕ) → Figures → Figures
-on-table w h table n answer = as-judged (table-judged w h (length table)) w h n answer
+on-table w h table n answer = as-admitted (admission w h (length table)) w h n answer
 
 unfoldable pub unless-refused : Figures → (filled table : List ℕ) → List ℕ
 unless-refused answer filled table = cond (eqb (answer .refusal) 0) filled table

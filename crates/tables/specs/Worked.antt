@@ -41,6 +41,8 @@ worked =
     ∷ refused-so 5 0 3 1
     ∷ refused-so 65536 1 2 1
     ∷ refused-so 1 65536 2 1
+    ∷ refused-so 0 0 0 1
+    ∷ refused-so 65536 65536 5 1
     ∷ []
 
 pub worked-right : T (all-right worked)

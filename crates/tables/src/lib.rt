@@ -7,7 +7,7 @@ ghost use Rattle.division.specs.Division.{whole};
 ghost use Rattle.division.specs.Forms.{block};
 ghost use Rattle.terms.specs.Terms.{answered};
 ghost use Rattle.leaves.specs.Walk.{Fits};
-ghost use Rattle.tables.specs.Tables.{table-judged, judged, by-number, by-square, unless-refused, due-by, fill, fill-figures, check, check-figures};
+ghost use Rattle.tables.specs.Tables.{admission, judged, by-number, by-square, unless-refused, due-by, fill, fill-figures, check, check-figures};
 
 // What a fill answers.
 pub enum FillAnswer {
@@ -37,24 +37,24 @@ fn whole_block(area: Area) -> Placed
 }
 
 // Whether a call may go on with a table.
-enum Judgement {
-    Fits,
+enum Admission {
+    Granted,
     Refused(Refusal),
 }
 
 // The area, and the length of its table, before any place of that is looked at.
-fn judge_table(area: Area, places: usize) -> Judgement
-    ensures { λ r. ⌜ r ≡ table-judged (area .w) (area .h) places ⌝ }
+fn admit(area: Area, places: usize) -> Admission
+    ensures { λ r. ⌜ r ≡ admission (area .w) (area .h) places ⌝ }
 {
     let w = area.w;
     let h = area.h;
     if !terms::accepts(area) {
-        return Judgement::Refused(terms::area_refusal(area));
+        return Admission::Refused(terms::area_refusal(area));
     }
     if places != w as usize * h as usize {
-        return Judgement::Refused(Refusal::TableLength);
+        return Admission::Refused(Refusal::TableLength);
     }
-    Judgement::Fits
+    Admission::Granted
 }
 
 // Fills a table of either kind for a whole area.
@@ -63,9 +63,9 @@ fn fill_whole(area: Area, table: &mut [u32], by_square: bool) -> FillAnswer
     ensures table { λ r. ⌜ now (table .exit)
         ≡ unless-refused (fill (area .w) (area .h) (now (table .entry))) (due-by «by_square» (area .w) (area .h)) (now (table .entry)) ⌝ }
 {
-    match judge_table(area, table.len()) {
-        Judgement::Refused(r) => FillAnswer::Refused(r),
-        Judgement::Fits => {
+    match admit(area, table.len()) {
+        Admission::Refused(r) => FillAnswer::Refused(r),
+        Admission::Granted => {
             let blocks = fills::fill_block(table, whole_block(area), area, 0, by_square);
             FillAnswer::Filled { blocks: blocks }
         }
@@ -111,9 +111,9 @@ fn check_fitting(area: Area, table: &[u32], by_square: bool) -> CheckAnswer
 fn check_whole(area: Area, table: &[u32], by_square: bool) -> CheckAnswer
     ensures { λ r. ⌜ check-figures r ≡ check (area .w) (area .h) (due-by «by_square» (area .w) (area .h)) (now (table .entry)) ⌝ }
 {
-    match judge_table(area, table.len()) {
-        Judgement::Refused(r) => CheckAnswer::Refused(r),
-        Judgement::Fits => check_fitting(area, table, by_square),
+    match admit(area, table.len()) {
+        Admission::Refused(r) => CheckAnswer::Refused(r),
+        Admission::Granted => check_fitting(area, table, by_square),
     }
 }
 

@@ -1,17 +1,17 @@
 -- What the terms say: an accepted area's lengths and squares, and that a refusal's number names it alone and is never 0.
-use mathlib.Core.Bool.{Bool, true, false, not, and-eq-true-iff}
+use mathlib.Core.Bool.{Bool, true, false, not, cond, and-eq-true-iff}
 use mathlib.Core.List.{List, [], _∷_}
 use mathlib.Core.Path.{_≡_, refl, sym, ap, _∙_}
-use Prim.Native.Nat.{ℕ, zero, suc, _*_, _≤_, _<_}
+use Prim.Native.Nat.{ℕ, _*_, _≤_, _<_}
 use native.Mathlib.Nat.{mul-le-mul}
 use borrow.Author.Tests.{leb-true, ne-eqb, not-true, not-false}
 use lib.Dec.{leb, eqb}
-use lib.ListN.{length, getD, take, drop}
+use lib.ListN.{length, getD}
 use native.Mathlib.Omega.{arith}
 use Rattle.terms.specs.declared.Refusal.{Refusal}
 use Rattle.terms.specs.declared.Refusal.the-variants.{AreaLimit, SquareOutside, NumberOutside, TableLength, NotANumber, WrongShape, NoArea, LongLine}
 use Rattle.terms.specs.declared.Refusal.the-variants.{TooDeep}
-use Rattle.terms.specs.Terms.{longest-side, past-32-bits, length-accepted, accepted, refusal-number, Figures}
+use Rattle.terms.specs.Terms.{longest-side, past-32-bits, length-accepted, accepted, area-refusal, refusal-number, Figures}
 
 -- what a call learns from the test of its area
 pub is-accepted : (w h : ℕ) {told : Bool} → told ≡ accepted w h → not told ≡ false → accepted w h ≡ true
@@ -46,16 +46,24 @@ squares-limit w h e =
     let most : w * h ≤ longest-side * longest-side = mul-le-mul (all .w-most) (all .h-most) in
     omega arith
 
--- the refusals by their numbers, from 1; this one law grows with them
+-- "1: w or h is 0 or over 65,535": what an area is refused with that is not accepted
+pub area-refused-1 : (w h : ℕ) → accepted w h ≡ false → refusal-number (area-refusal w h) ≡ 1
+unfolding area-refusal
+area-refused-1 w h bad = refl
+
+-- the refusals, and which of them has a number; this one law grows with them
 refusals : List Refusal
 refusals = AreaLimit ∷ SquareOutside ∷ NumberOutside ∷ TableLength ∷ NotANumber ∷ WrongShape ∷ NoArea ∷ LongLine ∷ TooDeep ∷ []
 
+among : List Refusal → ℕ → List Refusal
+among [] n = []
+among (r ∷ rs) n = cond (eqb (refusal-number r) n) (r ∷ []) (among rs n)
+
 numbered : ℕ → List Refusal
-numbered zero = []
-numbered (suc n) = take 1 (drop n refusals)
+numbered n = among refusals n
 
 numbered-back : (r : Refusal) → numbered (refusal-number r) ≡ r ∷ []
-unfolding numbered refusals
+unfolding numbered among refusals
 numbered-back AreaLimit = refl
 numbered-back SquareOutside = refl
 numbered-back NumberOutside = refl
@@ -78,7 +86,7 @@ pub refusal-one : (r s : Refusal) → refusal-number r ≡ refusal-number s → 
 refusal-one r s e = sym (named-back r) ∙ ap named e ∙ named-back s
 
 pub refusal-some : (r : Refusal) → refusal-number r ≡ 0 → ⊥
-unfolding numbered
+unfolding numbered among refusals
 refusal-some r e = let some : length (numbered 0) ≡ 1 = ap (λ n. length (numbered n)) (sym e) ∙ ap length (numbered-back r) in omega arith
 
 pub refusal-not-0 : (r : Refusal) → eqb (refusal-number r) 0 ≡ false

@@ -44,6 +44,10 @@ refusal-number LongLine = 8
 -- "a descent would open a 65th block"
 refusal-number TooDeep = 9
 
+-- So many blocks may hold a square that a call needs.
+abbrev pub most-blocks : ℕ
+most-blocks = 64
+
 -- An answer's figures on paper: the refusal's number, 0 where there is none, and the values in their order.
 pub record Figures : Type 0 where
   pub refusal : ℕ
@@ -63,6 +67,6 @@ refused r n = refused-with r (replicate n 0)
 abbrev pub on-area : (w h n : ℕ) → Figures → Figures
 on-area w h n answer = cond (accepted w h) answer (refused (area-refusal w h) n)
 
--- The least number that has not 32 bits: an area has fewer squares, and every number that is asked or answered is below it.
+-- The least number that has not 32 bits. An area has fewer squares.
 abbrev pub past-32-bits : ℕ
 past-32-bits = 4294967296

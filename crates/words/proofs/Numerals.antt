@@ -111,5 +111,6 @@ module _ (s : List ℕ) where
         by true e =
             let same : v ≡ value s = is ∙ rw e refl in
             let both = and-eq-true-iff (leb 1 (length s)) (well-begun s) .0 well in
-            ap Value same ∙ sym (rw (both .0, both .1, le-leb (length s) 10 few, e, le-leb (value s) largest-number (subst (λ (n : ℕ). n ≤ largest-number) same least)))
+            ap Value same ∙ sym (rw
+            (both .0, both .1, le-leb (length s) 10 few, e, le-leb (value s) largest-number (subst (λ (n : ℕ). n ≤ largest-number) same least)))
         by false e = absurd (let over : v ≡ past-32-bits = is ∙ rw e refl in omega arith)

@@ -32,10 +32,11 @@ value-on n (b ∷ bs) = value-on (n * 10 + (b - 48)) bs
 abbrev pub value : List ℕ → ℕ
 value f = value-on 0 f
 
--- "A number is 1 to 10 digits, first digit not 0 unless it is the single digit, value at most 4,294,967,295."
+-- The largest number.
 abbrev pub largest-number : ℕ
 largest-number = 4294967295
 
+-- "A number is 1 to 10 digits, first digit not 0 unless it is the single digit, value at most 4,294,967,295."
 unfoldable pub is-number : List ℕ → Bool
 is-number f = leb 1 (length f) && leb (length f) 10 && all-digits f && well-begun f && leb (value f) largest-number
 

@@ -10,8 +10,8 @@ use Rattle.clerk.proofs.clerk_after.Tie as tie
 
 returns : tie.Need-returns
 returns c =
-    let match = c .before .before .before in
-    left-none (match .before .before .before .args .clerk) (match .enum-told .given .1) (sym (c .before .begins-with .ensures) ∙ c .if1 .taken)
+    let match = c .before .before in
+    left-none (match .before .before .before .args .clerk) (match .enum-told .given .1) (sym (c .before .begins-area .ensures) ∙ c .if1 .taken)
 
 returns-2 : tie.Need-returns-2
 returns-2 c =
@@ -22,8 +22,8 @@ returns-2 c =
 
 returns-3 : tie.Need-returns-3
 returns-3 c =
-    let match = c .before .before .before in
-    left-alone (match .before .before .before .args .clerk) (match .enum-told .given .1) (sym (c .before .begins-with .ensures) ∙ c .if1 .left)
+    let match = c .before .before in
+    left-alone (match .before .before .before .args .clerk) (match .enum-told .given .1) (sym (c .before .begins-area .ensures) ∙ c .if1 .left)
 
 returns-4 : tie.Need-returns-4
 returns-4 c = let start = c .before .before in left-asked (start .args .clerk) (begins (start .args .line .now) AREA) (start .args .asked) (c .match .keys3)
@@ -31,5 +31,5 @@ returns-4 c = let start = c .before .before in left-asked (start .args .clerk) (
 pub clerk-after-spec : {M : Type 1} → statement M
 clerk-after-spec =
     tie.close
-    (tie.spec (λ c. search needs) (λ c κs. search needs) (λ c. search needs) (λ c. search needs) (λ c κs. search needs) returns returns-2 returns-3
+    (tie.spec (λ c. search needs) (λ c κs. search needs) (λ c. search needs) (λ c κs. search needs) returns returns-2 returns-3
     returns-4)

@@ -12,15 +12,17 @@ use Rattle.leaves.proofs.rung_at.Tie as tie
 stepped-requires : tie.Need-stepped-requires
 stepped-requires c κs =
     let two = c .pre .3 in
-    steps-along (c .args .k) (inside-grow (c .args .area .w) (c .args .area .h) longest-side longest-side (c .pre .1) (c .pre .2) (block (c .args .k)) (c .pre .0)) 1
-    (omega arith)
+    steps-along (c .args .k)
+    (inside-grow (c .args .area .w) (c .args .area .h) longest-side longest-side (c .pre .1) (c .pre .2) (block (c .args .k)) (c .pre .0))
+    1 (omega arith)
 
 stepped-requires-2 : tie.Need-stepped-requires-2
 stepped-requires-2 c κs =
     let start = c .before in
     let k = start .args .k in
     let area = start .args .area in
-    steps-across k (inside-grow (area .w) (area .h) longest-side longest-side (start .pre .1) (start .pre .2) (block k) (start .pre .0)) (start .args .v) (start .pre .4)
+    steps-across k (inside-grow (area .w) (area .h) longest-side longest-side (start .pre .1) (start .pre .2) (block k) (start .pre .0)) (start .args .v)
+    (start .pre .4)
 
 place-of-requires : tie.Need-place-of-requires
 place-of-requires c κs =

@@ -4,7 +4,7 @@ use Prim.Native.Nat.{_-_}
 use native.Mathlib.Omega.{arith}
 use lib.ListN.{length}
 use Rattle.lines.specs.Reading.{field-at}
-use Rattle.lines.proofs.Words.{end-from, end-here, end-on, end-past}
+use Rattle.lines.proofs.FieldEnds.{end-from, end-here, end-on, end-past}
 use Rattle.lines.proofs.fields.end_of.Statement.{statement}
 use Rattle.lines.proofs.fields.end_of.Tie as tie
 

@@ -1,7 +1,7 @@
 -- `lines::fields::field_at` meets its contract: the next field begins after a space, if there is one.
 use borrow.Author.Needs.{needs}
 use native.Mathlib.Omega.{arith}
-use Rattle.lines.proofs.Words.{one-more, no-more}
+use Rattle.lines.proofs.FieldEnds.{one-more, no-more}
 use Rattle.lines.proofs.fields.field_at.Statement.{statement}
 use Rattle.lines.proofs.fields.field_at.Tie as tie
 

@@ -1,12 +1,12 @@
--- `tables::judge_table` meets its contract: the tests are the definition's, in its order.
+-- `tables::admit` meets its contract: the tests are the definition's, in its order.
 use borrow.Author.Needs.{needs}
 use mathlib.Core.Path.{sym, ap}
 use native.Mathlib.Omega.{arith}
 use borrow.Author.Tests.{eq-eqb, ne-eqb}
 use Rattle.terms.proofs.Laws.{is-accepted, is-refused, squares-limit}
-use Rattle.tables.specs.declared.Judgement.the-variants.{Refused}
-use Rattle.tables.proofs.judge_table.Statement.{statement}
-use Rattle.tables.proofs.judge_table.Tie as tie
+use Rattle.tables.specs.declared.Admission.the-variants.{Refused}
+use Rattle.tables.proofs.admit.Statement.{statement}
+use Rattle.tables.proofs.admit.Tie as tie
 
 returns : tie.Need-returns
 returns c =
@@ -29,7 +29,7 @@ returns-3 c =
     let judged = c .before .before in
     sym (rw (is-accepted _ _ (judged .accepts .ensures) (c .before .if1 .left), eq-eqb _ _ (c .if2 .left)))
 
-pub judge-table-spec : {M : Type 1} → statement M
-judge-table-spec =
+pub admit-spec : {M : Type 1} → statement M
+admit-spec =
     tie.close
     (tie.spec (λ c κs. search needs) (λ c κs. search needs) returns (λ c. search needs) (λ c. search needs) mul-if2 returns-2 returns-3)
