@@ -29,7 +29,7 @@ two-parts : (k : Block) → Cut k → 2 ≤ length (parts k)
 two-parts k (in-two a b e) = rw e (omega arith)
 two-parts k (in-three a b e) = rw e (omega arith)
 
-blocks-length : (k : Block) → Sized k → length (blocks k) ≡ 1 + total (λ q. length (blocks q)) (parts k)
+pub blocks-length : (k : Block) → Sized k → length (blocks k) ≡ 1 + total (λ q. length (blocks q)) (parts k)
 blocks-length k h = ap length (blocks-rule k h) ∙ ap suc (length-joined blocks (parts k)) ∙ sym (one-add (total (λ q. length (blocks q)) (parts k)))
 
 -- each part has room for its blocks

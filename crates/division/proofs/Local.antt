@@ -13,7 +13,7 @@ use lib.ListN.{length, getD, length-map}
 use lib.Seq.{ext-getD}
 use Rattle.division.specs.declared.Choice.the-variants.{StraightRun, StraightSide, LongCut, UCut}
 use Rattle.division.specs.Division.{Square, square, Direction, Block, whole, choice, even-half, Part, First, Second, A, B, C, part, parts, parts-of}
-use Rattle.division.specs.Division.{moved, against, within, holds, curve, blocks-holding, square-of, number-of}
+use Rattle.division.specs.Division.{moved, against, within, holds, curve, blocks, blocks-holding, square-of, number-of}
 use Rattle.division.specs.Division.Inside.{Sized, Paired, x-y, y-x, x-y-back, y-x-back, Room, Inside}
 use Rattle.division.proofs.Rules.{All, Chosen, is-run, is-side, is-long, is-u, chosen, parts-are, Smaller}
 use Rattle.division.proofs.Cases.{induction, rule}
@@ -21,7 +21,7 @@ use Rattle.division.proofs.Plane.{turned, moved-add, moved-swap, moved-
 use Rattle.division.proofs.Sums.{total, all-right}
 use Rattle.division.proofs.Cuts.{area, last-room}
 use Rattle.division.proofs.Once.{length-curve, square-held, square-of-number, number-of-square}
-use Rattle.division.proofs.Blocks.{whole-inside}
+use Rattle.division.proofs.Blocks.{blocks-length, whole-inside}
 use Rattle.division.proofs.Descent.{skip-fits, part-smaller, run-square, side-square, straight-holding, part-inside, number-in, holding-in}
 
 not-lt : {m n : ℕ} → ¬ (m < n) → n ≤ m
@@ -317,6 +317,29 @@ everywhere-by k z all (is-u e a b t) s l = everywhere-cut k all b s (lies-u (k .
 
 everywhere : (k : Block) → Sized k → Everywhere k
 everywhere = induction Everywhere (λ k z all. everywhere-by k z all (chosen k z))
+
+-- as many blocks wherever a block of these lengths stands
+abbrev As-many : Block → Type 0
+As-many k = (j : Block) → length (blocks (resized j k)) ≡ length (blocks k)
+
+parts-as-many : (j k : Block) (ps : List Part) → All As-many (map (λ p. part p k) ps)
+    → total (λ q. length (blocks q)) (map (λ p. part p (resized j k)) ps) ≡ total (λ q. length (blocks q)) (map (λ p. part p k) ps)
+parts-as-many j k [] all = refl
+parts-as-many j k (p ∷ ps) all =
+    ap₂ _+_ (ap (λ q. length (blocks q)) (part-resized j k p) ∙ all .0 (part p (resized j k))) (parts-as-many j k ps (all .1))
+
+as-many : (k : Block) → Sized k → All As-many (parts k) → As-many k
+unfolding parts
+as-many k z all j =
+    blocks-length (resized j k) (record { run = z .run; side = z .side })
+    ∙ ap (λ n. 1 + n) (parts-as-many j k (parts-of (choice (k .a) (k .b))) all)
+    ∙ sym (blocks-length k z)
+
+-- Blocks of the same lengths have equally many blocks.
+pub count-alike : (j k : Block) → Sized k → j .a ≡ k .a → j .b ≡ k .b → length (blocks j) ≡ length (blocks k)
+count-alike j k z same-a same-b =
+    (λ i. length (blocks (record { start = j .start; run = j .run; a = same-a i; side = j .side; b = same-b i })))
+    ∙ induction As-many as-many k z j
 
 -- A block of lengths a and b answers at (u, v) as the a by b area does.
 pub alike : (w h : ℕ) (k : Block) → Inside w h k → (s : Square) → Within (k .a) (k .b) s
