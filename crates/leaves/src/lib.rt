@@ -13,7 +13,7 @@ ghost use Rattle.division.specs.Forms.{block};
 ghost use Rattle.leaves.specs.Walk.{place, enter-one, filled-with, exchanged, near, far, Fits, least-one, checked, wrong-packed, wrong-unpacked};
 
 // A square's place in a table by square.
-fn place_of(along: u32, across: u32, turned: bool, w: u32) -> u32
+pub fn place_of(along: u32, across: u32, turned: bool, w: u32) -> u32
     requires { ⌜ place w (cond turned (square across along) (square along across)) < past-32-bits ⌝ }
     ensures { λ r. ⌜ r ≡ place w (cond turned (square across along) (square along across)) ⌝ }
 {

@@ -1,0 +1,3 @@
+pub mod Entered
+pub mod Alike
+pub mod Siblings

@@ -1,0 +1,64 @@
+// A block of a table by number that repeats another one: copied from the table's own earlier places in one straight loop, in place of being walked.
+use division::Placed;
+use terms::Area;
+ghost use mathlib.Core.Bool.{false};
+ghost use mathlib.Core.Path.{_≡_};
+ghost use Prim.Native.Nat.{_+_, _≤_};
+ghost use lib.ListN.{length};
+ghost use Rattle.terms.specs.Terms.{longest-side};
+ghost use Rattle.division.specs.Division.Inside.{Inside};
+ghost use Rattle.division.specs.Forms.{block};
+ghost use Rattle.leaves.specs.Walk.{place, filled-with};
+ghost use Rattle.copies.specs.Copies.{image, copied, Again};
+
+// A place of one block as the other has it. Near 65,535 by 65,535 the sum of two places has not 32 bits: what wraps there wraps back.
+fn image_of(x: u32, c: u32, opposite: bool) -> u32
+    ensures { λ r. ⌜ r ≡ image «opposite» c x ⌝ }
+{
+    if opposite {
+        return std::num::wrapping_sub_u32(c, x);
+    }
+    std::num::wrapping_add_u32(x, c)
+}
+
+// Enters n places from `to` on. The loop has no branch, so that the compiler takes many places at a time.
+fn copy(table: &mut [u32], from: usize, to: usize, n: usize, c: u32, opposite: bool)
+    requires { ⌜ (from + n ≤ to) × (to + n ≤ length (now table)) ⌝ }
+    ensures { λ r. ⌜ now (table .exit) ≡ copied «opposite» c (now (table .entry)) from to n ⌝ }
+{
+    for i in 0..n {
+        table[to + i] = image_of(table[from + i], c, opposite);
+    }
+}
+
+// The constant between the places of two blocks, by those of their starts.
+fn between(j: Placed, k: Placed, area: Area, opposite: bool) -> u32
+    requires { ⌜ Inside (area .w) (area .h) (block j) × Inside (area .w) (area .h) (block k) × (area .w ≤ longest-side) × (area .h ≤ longest-side) ⌝ }
+    ensures { λ r. ⌜ place (area .w) (block k .start) ≡ image «opposite» r (place (area .w) (block j .start)) ⌝ }
+{
+    let w = area.w;
+    let p = leaves::place_of(j.along, j.across, j.turned, w);
+    let q = leaves::place_of(k.along, k.across, k.turned, w);
+    if opposite {
+        return std::num::wrapping_add_u32(p, q);
+    }
+    std::num::wrapping_sub_u32(q, p)
+}
+
+// Enters block k from `to` on, by copying block j, which it repeats, from `from` on.
+pub fn fill_again(
+    table: &mut [u32],
+    j: Placed,
+    from: u32,
+    k: Placed,
+    to: u32,
+    area: Area,
+    opposite: bool,
+)
+    requires { ⌜ Again (area .w) (area .h) (now table) (block j) from (block k) to «opposite» ⌝ }
+    ensures { λ r. ⌜ now (table .exit) ≡ filled-with false (area .w) (now (table .entry)) (block k) to ⌝ }
+{
+    let c = between(j, k, area, opposite);
+    let n = k.a * k.b;
+    copy(table, from as usize, to as usize, n as usize, c, opposite);
+}
