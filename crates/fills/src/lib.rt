@@ -76,25 +76,28 @@ fn fill_choice(
     }
 }
 
-// The two parts of a long cut.
+// The two parts of a long cut. By number the second repeats the first where it is as long: it is copied.
 fn fill_long_cut(table: &mut [u32], k: Placed, area: Area, at: u32, by_square: bool) -> u64
     requires { ⌜ Fits (area .w) (area .h) (now table) (block k) at × (choice (k .a) (k .b) ≡ LongCut) ⌝ }
     ensures table { λ r. ⌜ now (table .exit) ≡ filled-with «by_square» (area .w) (now (table .entry)) (block k) at ⌝ }
     ensures count { λ r. ⌜ r ≡ length (blocks (block k)) ⌝ }
 {
-    let to_second = at + division::even_half(k.a) * k.b;
-    let first = fill_block(table, division::long_part(k, false), area, at, by_square);
-    let second = fill_block(
-        table,
-        division::long_part(k, true),
-        area,
-        to_second,
-        by_square,
-    );
+    let e = division::even_half(k.a);
+    let to_second = at + e * k.b;
+    let near = division::long_part(k, false);
+    let far = division::long_part(k, true);
+    let first = fill_block(table, near, area, at, by_square);
+    if !by_square {
+        if e == k.a - e {
+            copies::fill_again(table, near, at, far, to_second, area, false);
+            return first + first + 1;
+        }
+    }
+    let second = fill_block(table, far, area, to_second, by_square);
     first + second + 1
 }
 
-// The three parts of a U cut.
+// The three parts of a U cut. By number C repeats A, turned round, where the run is even: it is copied.
 fn fill_u_cut(table: &mut [u32], k: Placed, area: Area, at: u32, by_square: bool) -> u64
     requires { ⌜ Fits (area .w) (area .h) (now table) (block k) at × (choice (k .a) (k .b) ≡ UCut) ⌝ }
     ensures table { λ r. ⌜ now (table .exit) ≡ filled-with «by_square» (area .w) (now (table .entry)) (block k) at ⌝ }
@@ -103,8 +106,16 @@ fn fill_u_cut(table: &mut [u32], k: Placed, area: Area, at: u32, by_square: bool
     let e = division::even_half(k.b);
     let to_b = at + e * (k.a / 2);
     let to_c = to_b + k.a * (k.b - e);
-    let a = fill_block(table, division::part_a(k), area, at, by_square);
+    let up = division::part_a(k);
+    let down = division::part_c(k);
+    let a = fill_block(table, up, area, at, by_square);
     let b = fill_block(table, division::part_b(k), area, to_b, by_square);
-    let c = fill_block(table, division::part_c(k), area, to_c, by_square);
+    if !by_square {
+        if k.a % 2 == 0 {
+            copies::fill_again(table, up, at, down, to_c, area, true);
+            return a + b + a + 1;
+        }
+    }
+    let c = fill_block(table, down, area, to_c, by_square);
     a + b + c + 1
 }

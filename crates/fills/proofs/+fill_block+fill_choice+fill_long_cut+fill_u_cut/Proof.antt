@@ -1,5 +1,5 @@
--- The four functions of a fill meet their contracts, by the laws of `Parts` and `Counts`: the parts' entries in order are the block's. The measure is three
--- times the block's area, plus 0 for a cut, 1 for `fill_choice` and 2 for `fill_block`: block, choice and cut are three calls on one block.
+-- The four functions of a fill meet their contracts, by the laws of `Parts`, `Counts` and `Repeats`: the parts' entries in order, walked or copied, are the
+-- block's. The measure is three times the block's area, plus 0 for a cut, 1 for `fill_choice` and 2 for `fill_block`, which are three calls on one block.
 use mathlib.Core.Path.{sym, _∙_}
 use Prim.Native.Nat.{ℕ, _+_, _*_, _<_}
 use native.Mathlib.Omega.{arith}
@@ -8,7 +8,9 @@ use Rattle.leaves.specs.Walk.{enter-one}
 use Rattle.leaves.proofs.Entries.{largest}
 use Rattle.leaves.proofs.Parts.{to-cut, part-asks, first-call, second-call, second-number, long-steps, a-call, b-call, c-call, u-deep, u-numbers, u-steps}
 use Rattle.leaves.proofs.Parts.{side-call, side-over}
+use Rattle.copies.proofs.Alike.{again-count}
 use Rattle.fills.proofs.Counts.{few, long-count, u-count, side-count}
+use Rattle.fills.proofs.Repeats.{copied-so, first-fits, second-asks, c-asks}
 use borrow.Fn.Kinds.{In}
 use borrow.Fn.PlainCycle.{Measures, is, falls, and}
 use Rattle.fills.proofs.fill_block.Reads as fill-block
@@ -32,6 +34,7 @@ use Rattle.division.proofs.part_c.Reads as part-c-reads
 use Rattle.leaves.proofs.exchanged_block.Reads as exchanged-block-reads
 use Rattle.leaves.proofs.fill_leaf.Reads as fill-leaf-reads
 use Rattle.leaves.proofs.fill_run.Reads as fill-run-reads
+use Rattle.copies.proofs.fill_again.Reads as fill-again-reads
 use Rattle.fills.proofs.+fill_block+fill_choice+fill_long_cut+fill_u_cut.{statement}
 use Rattle.fills.proofs.+fill_block+fill_choice+fill_long_cut+fill_u_cut.Tie.{close}
 
@@ -95,7 +98,16 @@ fill-choice-calls t = (
 
 -- what is asked and learnt at each call of `fill-long-cut`
 abbrev fill-long-cut-calls : ℕ → fill-long-cut-lts.Claims
-fill-long-cut-calls t = (even-half-reads.Asked, even-half-reads.Learnt, long-part-reads.Asked, long-part-reads.Learnt, fill-block-below t, fill-block.Post)
+fill-long-cut-calls t = (
+  even-half-reads.Asked,
+  even-half-reads.Learnt,
+  long-part-reads.Asked,
+  long-part-reads.Learnt,
+  fill-block-below t,
+  fill-block.Post,
+  fill-again-reads.Asked,
+  fill-again-reads.Learnt,
+)
 
 -- what is asked and learnt at each call of `fill-u-cut`
 abbrev fill-u-cut-calls : ℕ → fill-u-cut-lts.Claims
@@ -104,12 +116,14 @@ fill-u-cut-calls t = (
   even-half-reads.Learnt,
   part-a-reads.Asked,
   part-a-reads.Learnt,
+  part-c-reads.Asked,
+  part-c-reads.Learnt,
   fill-block-below t,
   fill-block.Post,
   part-b-reads.Asked,
   part-b-reads.Learnt,
-  part-c-reads.Asked,
-  part-c-reads.Learnt,
+  fill-again-reads.Asked,
+  fill-again-reads.Learnt,
 )
 
 fill-block-fill-choice-requires : (t : ℕ) → fill-block-lts.Need-fill-choice-requires (fill-block-calls t) (fill-block-at t) fill-block.Post
@@ -223,54 +237,118 @@ fill-long-cut-add-to-second : (t : ℕ) → fill-long-cut-lts.Need-add-to-second
 fill-long-cut-add-to-second t c = record { fits = second-number (c .before .before .before .pre) (c .before .even-half .ensures) .1 }
 
 fill-long-cut-long-part-requires : (t : ℕ) → fill-long-cut-lts.Need-long-part-requires (fill-long-cut-calls t) (fill-long-cut-at t) fill-long-cut.Post
-fill-long-cut-long-part-requires t c κs = part-asks (c .before .before .before .before .pre)
+fill-long-cut-long-part-requires t c κs = part-asks (c .before .before .before .pre)
+
+fill-long-cut-long-part-requires-2 : (t : ℕ) → fill-long-cut-lts.Need-long-part-requires-2 (fill-long-cut-calls t) (fill-long-cut-at t) fill-long-cut.Post
+fill-long-cut-long-part-requires-2 t c κs = part-asks (c .before .before .before .before .pre)
 
 fill-long-cut-fill-block-requires : (t : ℕ) → fill-long-cut-lts.Need-fill-block-requires (fill-long-cut-calls t) (fill-long-cut-at t) fill-long-cut.Post
 fill-long-cut-fill-block-requires t c κs =
-    let halved = c .before .before .before in
-    first-call (halved .before .before .pre) (halved .even-half .ensures) (c .long-part .result) (c .long-part .ensures)
+    let near = c .before .before in
+    let halved = near .before .before in
+    first-call (halved .before .before .pre) (halved .even-half .ensures) (near .long-part .result) (near .long-part .ensures)
 
-fill-long-cut-long-part-requires-2 : (t : ℕ) → fill-long-cut-lts.Need-long-part-requires-2 (fill-long-cut-calls t) (fill-long-cut-at t) fill-long-cut.Post
-fill-long-cut-long-part-requires-2 t c κs =
-    let first = c .before .before .before in
-    part-asks (first .before .before .before .before .before .before .pre)
-
-fill-long-cut-fill-block-requires-2 : (t : ℕ) → fill-long-cut-lts.Need-fill-block-requires-2 (fill-long-cut-calls t) (fill-long-cut-at t) fill-long-cut.Post
-fill-long-cut-fill-block-requires-2 t c κs =
+fill-long-cut-sub-if2 : (t : ℕ) → fill-long-cut-lts.Need-sub-if2 (fill-long-cut-calls t) (fill-long-cut-at t) fill-long-cut.Post
+fill-long-cut-sub-if2 t c =
     let first = c .before .before .before .before in
-    let halved = first .before .before .before .before in
-    second-call (halved .before .before .pre) (halved .even-half .ensures) (first .fill-block .kept .0) (c .long-part2 .result) (c .long-part2 .ensures)
+    let far = first .before .before in
+    let near = far .before in
+    let halved = near .before .before in
+    let start = halved .before .before in
+    first-fits (start .pre) (halved .even-half .ensures)
+
+fill-long-cut-fill-again-requires : (t : ℕ) → fill-long-cut-lts.Need-fill-again-requires (fill-long-cut-calls t) (fill-long-cut-at t) fill-long-cut.Post
+fill-long-cut-fill-again-requires t c κs =
+    let kind = c .before .before .before in
+    let first = kind .before .before .before in
+    let far = first .before .before in
+    let near = far .before in
+    let halved = near .before .before in
+    let start = halved .before .before in
+    second-asks (start .args .by-square) (kind .if1 .taken) (start .pre) (halved .even-half .ensures) (near .long-part .result) (far .long-part2 .result)
+    (near .long-part .ensures) (far .long-part2 .ensures) (first .fill-block .ensures .0) (first .fill-block .kept .0) (c .before .if2 .taken)
 
 fill-long-cut-same-length : (t : ℕ) → fill-long-cut-lts.Need-same-length (fill-long-cut-calls t) (fill-long-cut-at t) fill-long-cut.Post
 fill-long-cut-same-length t c =
-    let second = c .before .before in
-    second .fill-block2 .kept .0 ∙ second .before .before .before .before .before .fill-block .kept .0
+    let copied = c .before .before in
+    let kind = copied .before .before .before .before in
+    copied .fill-again .kept .0 ∙ kind .before .before .before .fill-block .kept .0
 
 fill-long-cut-returns : (t : ℕ) → fill-long-cut-lts.Need-returns (fill-long-cut-calls t) (fill-long-cut-at t) fill-long-cut.Post
 fill-long-cut-returns t c =
-    let second = c .before .before in
-    let second-part = second .before in
-    let first = second-part .before .before .before .before in
-    let first-part = first .before in
-    let halved = first-part .before .before .before in
+    let copied = c .before .before in
+    let asked = copied .before in
+    let kind = asked .before .before .before in
+    let first = kind .before .before .before in
+    let far = first .before .before in
+    let near = far .before in
+    let halved = near .before .before in
     let start = halved .before .before in
-    let is-first = first-part .long-part .ensures in
-    let is-second = second-part .long-part2 .ensures in (
-      long-steps (start .pre) (halved .even-half .ensures) (enter-one (start .args .by-square)) (start .args .table .now) is-first is-second
-          (first .fill-block .ensures .0) (second .fill-block2 .ensures .0),
-      long-count (start .pre) is-first is-second (first .fill-block .ensures .1) (second .fill-block2 .ensures .1),
+    let again = fill-long-cut-fill-again-requires t asked (copied .fill-again .lifetimes) in
+    let is-near = near .long-part .ensures in
+    let is-far = far .long-part2 .ensures in
+    let count = first .fill-block .ensures .1 in (
+      long-steps (start .pre) (halved .even-half .ensures) (enter-one (start .args .by-square)) (start .args .table .now) is-near is-far
+          (first .fill-block .ensures .0) (copied-so (start .args .by-square) (kind .if1 .taken) _ _ _ _ (copied .fill-again .ensures)),
+      long-count (start .pre) is-near is-far count (count ∙ again-count again),
     )
 
 -- the sums are at most the count that is returned
 fill-long-cut-add-result-2 : (t : ℕ) → fill-long-cut-lts.Need-add-result-2 (fill-long-cut-calls t) (fill-long-cut-at t) fill-long-cut.Post
 fill-long-cut-add-result-2 t c =
-    let second = c .before .before in
-    let first = second .before .before .before .before .before in
-    let halved = first .before .before .before .before in
-    record { fits = let count = fill-long-cut-returns t c .1 in let most = few (halved .before .before .pre .1 .0) in omega arith }
+    let copied = c .before .before in
+    let kind = copied .before .before .before .before in
+    let first = kind .before .before .before in
+    let far = first .before .before in
+    let near = far .before in
+    let halved = near .before .before in
+    let start = halved .before .before in
+    record { fits = let count = fill-long-cut-returns t c .1 in let most = few (start .pre .1 .0) in omega arith }
 
 fill-long-cut-add-result : (t : ℕ) → fill-long-cut-lts.Need-add-result (fill-long-cut-calls t) (fill-long-cut-at t) fill-long-cut.Post
 fill-long-cut-add-result t c = record { fits = let all = fill-long-cut-add-result-2 t c .fits in omega arith }
+
+fill-long-cut-fill-block-requires-2 : (t : ℕ) → fill-long-cut-lts.Need-fill-block-requires-2 (fill-long-cut-calls t) (fill-long-cut-at t) fill-long-cut.Post
+fill-long-cut-fill-block-requires-2 t c κs =
+    let first = c .before .before .before .before in
+    let far = first .before .before in
+    let near = far .before in
+    let halved = near .before .before in
+    let start = halved .before .before in
+    second-call (start .pre) (halved .even-half .ensures) (first .fill-block .kept .0) (far .long-part2 .result) (far .long-part2 .ensures)
+
+fill-long-cut-same-length-2 : (t : ℕ) → fill-long-cut-lts.Need-same-length-2 (fill-long-cut-calls t) (fill-long-cut-at t) fill-long-cut.Post
+fill-long-cut-same-length-2 t c =
+    let second = c .before .before in
+    second .fill-block2 .kept .0 ∙ second .before .before .before .before .before .fill-block .kept .0
+
+fill-long-cut-returns-2 : (t : ℕ) → fill-long-cut-lts.Need-returns-2 (fill-long-cut-calls t) (fill-long-cut-at t) fill-long-cut.Post
+fill-long-cut-returns-2 t c =
+    let second = c .before .before in
+    let first = second .before .before .before .before .before in
+    let far = first .before .before in
+    let near = far .before in
+    let halved = near .before .before in
+    let start = halved .before .before in
+    let is-near = near .long-part .ensures in
+    let is-far = far .long-part2 .ensures in (
+      long-steps (start .pre) (halved .even-half .ensures) (enter-one (start .args .by-square)) (start .args .table .now) is-near is-far
+          (first .fill-block .ensures .0) (second .fill-block2 .ensures .0),
+      long-count (start .pre) is-near is-far (first .fill-block .ensures .1) (second .fill-block2 .ensures .1),
+    )
+
+fill-long-cut-add-result-4 : (t : ℕ) → fill-long-cut-lts.Need-add-result-4 (fill-long-cut-calls t) (fill-long-cut-at t) fill-long-cut.Post
+fill-long-cut-add-result-4 t c =
+    let second = c .before .before in
+    let first = second .before .before .before .before .before in
+    let far = first .before .before in
+    let near = far .before in
+    let halved = near .before .before in
+    let start = halved .before .before in
+    record { fits = let count = fill-long-cut-returns-2 t c .1 in let most = few (start .pre .1 .0) in omega arith }
+
+fill-long-cut-add-result-3 : (t : ℕ) → fill-long-cut-lts.Need-add-result-3 (fill-long-cut-calls t) (fill-long-cut-at t) fill-long-cut.Post
+fill-long-cut-add-result-3 t c = record { fits = let all = fill-long-cut-add-result-4 t c .fits in omega arith }
 
 fill-u-cut-even-half-requires : (t : ℕ) → fill-u-cut-lts.Need-even-half-requires (fill-u-cut-calls t) (fill-u-cut-at t) fill-u-cut.Post
 fill-u-cut-even-half-requires t c κs = tt
@@ -291,77 +369,150 @@ fill-u-cut-add-to-c : (t : ℕ) → fill-u-cut-lts.Need-add-to-c (fill-u-cut-cal
 fill-u-cut-add-to-c t c = record { fits = u-numbers (c .before .before .before .before .before .pre) (c .before .before .before .even-half .ensures) .to-c }
 
 fill-u-cut-part-a-requires : (t : ℕ) → fill-u-cut-lts.Need-part-a-requires (fill-u-cut-calls t) (fill-u-cut-at t) fill-u-cut.Post
-fill-u-cut-part-a-requires t c κs = part-asks (c .before .before .before .before .before .before .pre)
+fill-u-cut-part-a-requires t c κs = part-asks (c .before .before .before .before .before .pre)
+
+fill-u-cut-part-c-requires : (t : ℕ) → fill-u-cut-lts.Need-part-c-requires (fill-u-cut-calls t) (fill-u-cut-at t) fill-u-cut.Post
+fill-u-cut-part-c-requires t c κs = part-asks (c .before .before .before .before .before .before .pre)
 
 fill-u-cut-fill-block-requires : (t : ℕ) → fill-u-cut-lts.Need-fill-block-requires (fill-u-cut-calls t) (fill-u-cut-at t) fill-u-cut.Post
 fill-u-cut-fill-block-requires t c κs =
-    let halved = c .before .before .before .before .before in
-    a-call (halved .before .before .pre) (halved .even-half .ensures) (c .part-a .result) (c .part-a .ensures)
+    let up = c .before .before in
+    let halved = up .before .before .before .before in
+    a-call (halved .before .before .pre) (halved .even-half .ensures) (up .part-a .result) (up .part-a .ensures)
 
 fill-u-cut-part-b-requires : (t : ℕ) → fill-u-cut-lts.Need-part-b-requires (fill-u-cut-calls t) (fill-u-cut-at t) fill-u-cut.Post
 fill-u-cut-part-b-requires t c κs =
     let first = c .before .before .before in
-    let halved = first .before .before .before .before .before .before in
-    part-asks (halved .before .before .pre)
+    let down = first .before .before in
+    let up = down .before in
+    let halved = up .before .before .before .before in
+    let start = halved .before .before in
+    part-asks (start .pre)
 
 fill-u-cut-fill-block-requires-2 : (t : ℕ) → fill-u-cut-lts.Need-fill-block-requires-2 (fill-u-cut-calls t) (fill-u-cut-at t) fill-u-cut.Post
 fill-u-cut-fill-block-requires-2 t c κs =
     let first = c .before .before .before .before in
-    let halved = first .before .before .before .before .before .before in
-    b-call (halved .before .before .pre) (halved .even-half .ensures) (first .fill-block .kept .0) (c .part-b .result) (c .part-b .ensures)
+    let down = first .before .before in
+    let up = down .before in
+    let halved = up .before .before .before .before in
+    let start = halved .before .before in
+    b-call (start .pre) (halved .even-half .ensures) (first .fill-block .kept .0) (c .part-b .result) (c .part-b .ensures)
 
-fill-u-cut-part-c-requires : (t : ℕ) → fill-u-cut-lts.Need-part-c-requires (fill-u-cut-calls t) (fill-u-cut-at t) fill-u-cut.Post
-fill-u-cut-part-c-requires t c κs =
-    let second = c .before .before .before in
-    let first = second .before .before .before .before .before in
-    let halved = first .before .before .before .before .before .before in
-    part-asks (halved .before .before .pre)
-
-fill-u-cut-fill-block-requires-3 : (t : ℕ) → fill-u-cut-lts.Need-fill-block-requires-3 (fill-u-cut-calls t) (fill-u-cut-at t) fill-u-cut.Post
-fill-u-cut-fill-block-requires-3 t c κs =
-    let second = c .before .before .before .before in
-    let first = second .before .before .before .before .before in
-    let halved = first .before .before .before .before .before .before in
-    c-call (halved .before .before .pre) (halved .even-half .ensures) (second .fill-block2 .kept .0 ∙ first .fill-block .kept .0) (c .part-c .result)
-    (c .part-c .ensures)
+fill-u-cut-fill-again-requires : (t : ℕ) → fill-u-cut-lts.Need-fill-again-requires (fill-u-cut-calls t) (fill-u-cut-at t) fill-u-cut.Post
+fill-u-cut-fill-again-requires t c κs =
+    let kind = c .before .before .before in
+    let second = kind .before .before .before in
+    let along = second .before in
+    let first = along .before .before .before .before in
+    let down = first .before .before in
+    let up = down .before in
+    let halved = up .before .before .before .before in
+    let start = halved .before .before in
+    c-asks (start .args .by-square) (kind .if1 .taken) (start .pre) (halved .even-half .ensures) (up .part-a .result) (along .part-b .result)
+    (down .part-c .result) (up .part-a .ensures) (down .part-c .ensures) (first .fill-block .ensures .0) (second .fill-block2 .ensures .0)
+    (first .fill-block .kept .0) (second .fill-block2 .kept .0) (c .before .if2 .taken)
 
 fill-u-cut-same-length : (t : ℕ) → fill-u-cut-lts.Need-same-length (fill-u-cut-calls t) (fill-u-cut-at t) fill-u-cut.Post
 fill-u-cut-same-length t c =
-    let third = c .before .before in
-    let second = third .before .before .before .before .before in
-    third .fill-block3 .kept .0 ∙ second .fill-block2 .kept .0 ∙ second .before .before .before .before .before .fill-block .kept .0
+    let copied = c .before .before in
+    let kind = copied .before .before .before .before in
+    let second = kind .before .before .before in
+    copied .fill-again .kept .0 ∙ second .fill-block2 .kept .0 ∙ second .before .before .before .before .before .fill-block .kept .0
 
 fill-u-cut-returns : (t : ℕ) → fill-u-cut-lts.Need-returns (fill-u-cut-calls t) (fill-u-cut-at t) fill-u-cut.Post
 fill-u-cut-returns t c =
-    let third = c .before .before in
-    let part-c = third .before in
-    let second = part-c .before .before .before .before in
-    let part-b = second .before in
-    let first = part-b .before .before .before .before in
-    let part-a = first .before in
-    let halved = part-a .before .before .before .before .before in
+    let copied = c .before .before in
+    let asked = copied .before in
+    let kind = asked .before .before .before in
+    let second = kind .before .before .before in
+    let along = second .before in
+    let first = along .before .before .before .before in
+    let down = first .before .before in
+    let up = down .before in
+    let halved = up .before .before .before .before in
     let start = halved .before .before in
-    let is-a = part-a .part-a .ensures in
-    let is-b = part-b .part-b .ensures in
-    let is-c = part-c .part-c .ensures in (
+    let again = fill-u-cut-fill-again-requires t asked (copied .fill-again .lifetimes) in
+    let is-a = up .part-a .ensures in
+    let is-b = along .part-b .ensures in
+    let is-c = down .part-c .ensures in
+    let count = first .fill-block .ensures .1 in (
       u-steps (start .pre) (halved .even-half .ensures) (enter-one (start .args .by-square)) (start .args .table .now) is-a is-b is-c
-          (first .fill-block .ensures .0) (second .fill-block2 .ensures .0) (third .fill-block3 .ensures .0),
-      u-count (start .pre) is-a is-b is-c (first .fill-block .ensures .1) (second .fill-block2 .ensures .1) (third .fill-block3 .ensures .1),
+          (first .fill-block .ensures .0) (second .fill-block2 .ensures .0)
+          (copied-so (start .args .by-square) (kind .if1 .taken) _ _ _ _ (copied .fill-again .ensures)),
+      u-count (start .pre) is-a is-b is-c count (second .fill-block2 .ensures .1) (count ∙ again-count again),
     )
 
 fill-u-cut-add-result-3 : (t : ℕ) → fill-u-cut-lts.Need-add-result-3 (fill-u-cut-calls t) (fill-u-cut-at t) fill-u-cut.Post
 fill-u-cut-add-result-3 t c =
-    let third = c .before .before in
-    let second = third .before .before .before .before .before in
-    let first = second .before .before .before .before .before in
-    let halved = first .before .before .before .before .before .before in
-    record { fits = let count = fill-u-cut-returns t c .1 in let most = few (halved .before .before .pre .1 .0) in omega arith }
+    let copied = c .before .before in
+    let kind = copied .before .before .before .before in
+    let second = kind .before .before .before in
+    let along = second .before in
+    let first = along .before .before .before .before in
+    let down = first .before .before in
+    let up = down .before in
+    let halved = up .before .before .before .before in
+    let start = halved .before .before in
+    record { fits = let count = fill-u-cut-returns t c .1 in let most = few (start .pre .1 .0) in omega arith }
 
 fill-u-cut-add-result-2 : (t : ℕ) → fill-u-cut-lts.Need-add-result-2 (fill-u-cut-calls t) (fill-u-cut-at t) fill-u-cut.Post
 fill-u-cut-add-result-2 t c = record { fits = let all = fill-u-cut-add-result-3 t c .fits in omega arith }
 
 fill-u-cut-add-result : (t : ℕ) → fill-u-cut-lts.Need-add-result (fill-u-cut-calls t) (fill-u-cut-at t) fill-u-cut.Post
 fill-u-cut-add-result t c = record { fits = let all = fill-u-cut-add-result-3 t c .fits in omega arith }
+
+fill-u-cut-fill-block-requires-3 : (t : ℕ) → fill-u-cut-lts.Need-fill-block-requires-3 (fill-u-cut-calls t) (fill-u-cut-at t) fill-u-cut.Post
+fill-u-cut-fill-block-requires-3 t c κs =
+    let second = c .before .before .before .before in
+    let along = second .before in
+    let first = along .before .before .before .before in
+    let down = first .before .before in
+    let up = down .before in
+    let halved = up .before .before .before .before in
+    let start = halved .before .before in
+    c-call (start .pre) (halved .even-half .ensures) (second .fill-block2 .kept .0 ∙ first .fill-block .kept .0) (down .part-c .result) (down .part-c .ensures)
+
+fill-u-cut-same-length-2 : (t : ℕ) → fill-u-cut-lts.Need-same-length-2 (fill-u-cut-calls t) (fill-u-cut-at t) fill-u-cut.Post
+fill-u-cut-same-length-2 t c =
+    let third = c .before .before in
+    let second = third .before .before .before .before .before in
+    third .fill-block3 .kept .0 ∙ second .fill-block2 .kept .0 ∙ second .before .before .before .before .before .fill-block .kept .0
+
+fill-u-cut-returns-2 : (t : ℕ) → fill-u-cut-lts.Need-returns-2 (fill-u-cut-calls t) (fill-u-cut-at t) fill-u-cut.Post
+fill-u-cut-returns-2 t c =
+    let third = c .before .before in
+    let second = third .before .before .before .before .before in
+    let along = second .before in
+    let first = along .before .before .before .before in
+    let down = first .before .before in
+    let up = down .before in
+    let halved = up .before .before .before .before in
+    let start = halved .before .before in
+    let is-a = up .part-a .ensures in
+    let is-b = along .part-b .ensures in
+    let is-c = down .part-c .ensures in (
+      u-steps (start .pre) (halved .even-half .ensures) (enter-one (start .args .by-square)) (start .args .table .now) is-a is-b is-c
+          (first .fill-block .ensures .0) (second .fill-block2 .ensures .0) (third .fill-block3 .ensures .0),
+      u-count (start .pre) is-a is-b is-c (first .fill-block .ensures .1) (second .fill-block2 .ensures .1) (third .fill-block3 .ensures .1),
+    )
+
+fill-u-cut-add-result-6 : (t : ℕ) → fill-u-cut-lts.Need-add-result-6 (fill-u-cut-calls t) (fill-u-cut-at t) fill-u-cut.Post
+fill-u-cut-add-result-6 t c =
+    let third = c .before .before in
+    let second = third .before .before .before .before .before in
+    let along = second .before in
+    let first = along .before .before .before .before in
+    let down = first .before .before in
+    let up = down .before in
+    let halved = up .before .before .before .before in
+    let start = halved .before .before in
+    record { fits = let count = fill-u-cut-returns-2 t c .1 in let most = few (start .pre .1 .0) in omega arith }
+
+fill-u-cut-add-result-5 : (t : ℕ) → fill-u-cut-lts.Need-add-result-5 (fill-u-cut-calls t) (fill-u-cut-at t) fill-u-cut.Post
+fill-u-cut-add-result-5 t c = record { fits = let all = fill-u-cut-add-result-6 t c .fits in omega arith }
+
+fill-u-cut-add-result-4 : (t : ℕ) → fill-u-cut-lts.Need-add-result-4 (fill-u-cut-calls t) (fill-u-cut-at t) fill-u-cut.Post
+fill-u-cut-add-result-4 t c = record { fits = let all = fill-u-cut-add-result-6 t c .fits in omega arith }
 
 pub +fill-block+fill-choice+fill-long-cut+fill-u-cut-spec : {M : Type 1} → statement M
 +fill-block+fill-choice+fill-long-cut+fill-u-cut-spec =
@@ -402,13 +553,19 @@ pub +fill-block+fill-choice+fill-long-cut+fill-u-cut-spec : {M : Type 1} → sta
     (fill-long-cut-mul-to-second t)
     (fill-long-cut-add-to-second t)
     (fill-long-cut-long-part-requires t)
-    (fill-long-cut-fill-block-requires t)
     (fill-long-cut-long-part-requires-2 t)
-    (fill-long-cut-fill-block-requires-2 t)
+    (fill-long-cut-fill-block-requires t)
+    (fill-long-cut-sub-if2 t)
+    (fill-long-cut-fill-again-requires t)
     (fill-long-cut-add-result t)
     (fill-long-cut-add-result-2 t)
     (fill-long-cut-same-length t)
-    (fill-long-cut-returns t))
+    (fill-long-cut-returns t)
+    (fill-long-cut-fill-block-requires-2 t)
+    (fill-long-cut-add-result-3 t)
+    (fill-long-cut-add-result-4 t)
+    (fill-long-cut-same-length-2 t)
+    (fill-long-cut-returns-2 t))
     λ t. fill-u-cut-lts.spec (fill-u-cut-calls t)
     (fill-u-cut-at t)
     fill-u-cut.Post
@@ -419,13 +576,19 @@ pub +fill-block+fill-choice+fill-long-cut+fill-u-cut-spec : {M : Type 1} → sta
     (fill-u-cut-mul-to-c t)
     (fill-u-cut-add-to-c t)
     (fill-u-cut-part-a-requires t)
+    (fill-u-cut-part-c-requires t)
     (fill-u-cut-fill-block-requires t)
     (fill-u-cut-part-b-requires t)
     (fill-u-cut-fill-block-requires-2 t)
-    (fill-u-cut-part-c-requires t)
-    (fill-u-cut-fill-block-requires-3 t)
+    (fill-u-cut-fill-again-requires t)
     (fill-u-cut-add-result t)
     (fill-u-cut-add-result-2 t)
     (fill-u-cut-add-result-3 t)
     (fill-u-cut-same-length t)
     (fill-u-cut-returns t)
+    (fill-u-cut-fill-block-requires-3 t)
+    (fill-u-cut-add-result-4 t)
+    (fill-u-cut-add-result-5 t)
+    (fill-u-cut-add-result-6 t)
+    (fill-u-cut-same-length-2 t)
+    (fill-u-cut-returns-2 t)
