@@ -1,6 +1,7 @@
 // boundary SEED: the library's C functions against the independent reading of document 01: every area up to 40 by 40 whole, and random and hostile
 // arguments by the hundred thousand. The seed is printed, and what was asked, where an answer differs.
 mod expected;
+#[allow(dead_code)] // the way down to a number is not needed here
 mod independent;
 mod random;
 #[path = "../bindings/rust/src/raw.rs"]

@@ -123,6 +123,33 @@ fn number_of(k: Block, s: Square) -> (i64, i64) {
     panic!("no part holds the square")
 }
 
+// A block on the way down to a number: its start, its first number and how many squares it has; and whether it is the last part of the block before it
+// and as long each way as the first part, which begins where that block does.
+pub struct Step {
+    pub start: Square,
+    pub first: i64,
+    pub squares: i64,
+    pub again: bool,
+}
+
+// The blocks that hold a number's square, from the whole area down.
+pub fn way_down(w: i64, h: i64, number: i64) -> Vec<Step> {
+    let mut steps = vec![];
+    let (mut k, mut first, mut again) = (whole(w, h), 0, false);
+    loop {
+        steps.push(Step { start: k.start, first, squares: k.a * k.b, again });
+        let inner = parts(k);
+        let mut left = inner.as_slice();
+        while left.len() > 1 && number >= first + left[0].a * left[0].b {
+            first += left[0].a * left[0].b;
+            left = &left[1..];
+        }
+        let Some(part) = left.first() else { return steps };
+        again = left.len() == 1 && (part.a, part.b) == (inner[0].a, inner[0].b);
+        k = *part;
+    }
+}
+
 // The squares of an area in the order of their numbers, each with how many of all blocks hold it.
 pub fn traversal(w: i64, h: i64) -> Vec<(Square, i64)> {
     let all = blocks(whole(w, h));
