@@ -129,7 +129,8 @@ fn index_fill(table: &mut [u32]) {
     }
 }
 
-// The least time a square of fill and check, in the library and in Rust, of the best fill in Rust, and of writing the index.
+// The least time a square of fill and check, in the library and in Rust, of the best fill in Rust, and of writing the index. One call on a small table would be
+// too short for the clock, so a round has several.
 fn least_of_tables(w: u32, h: u32, by_square: bool) -> [f64; 6] {
     let n = w as usize * h as usize;
     let (mut ours, mut theirs, mut index) = (vec![0; n], vec![0; n], vec![0; n]);
@@ -140,15 +141,17 @@ fn least_of_tables(w: u32, h: u32, by_square: bool) -> [f64; 6] {
     ours[n / 2] += 1;
     assert_eq!(check(w, h, &ours, by_square), Ok(Some((n as u32 / 2, theirs[n / 2]))));
     assert_eq!(check(w, h, &ours, by_square), versions::check(w, h, &ours, by_square));
+    let calls = 300_000usize.div_ceil(n);
+    let time = |call: &mut dyn FnMut()| time(n * calls, || (0..calls).for_each(|_| call()));
     let mut best = [f64::MAX; 6];
-    for _ in 0..if n < 1_000_000 { 50 } else { 7 } {
+    for _ in 0..7 {
         let round = [
-            time(n, || _ = black_box(fill(w, h, black_box(&mut ours), by_square))),
-            time(n, || _ = black_box(versions::fill(w, h, black_box(&mut theirs), by_square))),
-            time(n, || _ = black_box(strong::fill(w, h, black_box(&mut theirs), by_square))),
-            time(n, || assert_eq!(check(w, h, black_box(&ours), by_square), Ok(None))),
-            time(n, || assert_eq!(versions::check(w, h, black_box(&theirs), by_square), Ok(None))),
-            time(n, || index_fill(black_box(&mut index))),
+            time(&mut || _ = black_box(fill(w, h, black_box(&mut ours), by_square))),
+            time(&mut || _ = black_box(versions::fill(w, h, black_box(&mut theirs), by_square))),
+            time(&mut || _ = black_box(strong::fill(w, h, black_box(&mut theirs), by_square))),
+            time(&mut || assert_eq!(check(w, h, black_box(&ours), by_square), Ok(None))),
+            time(&mut || assert_eq!(versions::check(w, h, black_box(&theirs), by_square), Ok(None))),
+            time(&mut || index_fill(black_box(&mut index))),
         ];
         for (b, r) in best.iter_mut().zip(round) {
             *b = b.min(r);
@@ -158,10 +161,10 @@ fn least_of_tables(w: u32, h: u32, by_square: bool) -> [f64; 6] {
 }
 
 fn tables() {
-    println!("\n### Tables\n\nNanoseconds a square, the least of seven rounds or more over the whole area.\n");
+    println!("\n### Tables\n\nNanoseconds a square, the least of seven rounds over the whole area, or over a small one several times.\n");
     println!("| area | kind | fill | Rust fill | ratio | best Rust fill | ratio | to writing the index | check | Rust check | ratio |");
     println!("|---|---|---|---|---|---|---|---|---|---|---|");
-    for (w, h) in [(64, 64), (256, 256), (1024, 1024), (4096, 4096), (8192, 8192), (4095, 4097), (3000, 5000)] {
+    for (w, h) in [(64, 64), (33, 47), (256, 256), (1024, 1024), (4096, 4096), (8192, 8192), (4095, 4097), (3000, 5000), (40000, 400)] {
         for (by_square, kind) in [(false, "by number"), (true, "by square")] {
             let [fill, rust, strong, check, rust_check, index] = least_of_tables(w, h, by_square);
             print!("| {w} by {h} | {kind} | {fill:.2} | {rust:.2} | {:.2} | {strong:.2} | {:.2} | {:.2} ", fill / rust, fill / strong, fill / index);
