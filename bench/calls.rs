@@ -129,21 +129,28 @@ fn index_fill(table: &mut [u32]) {
     }
 }
 
-// The least time a square of fill and check, in the library and in Rust, of the best fill in Rust, and of writing the index. One call on a small table would be
+// All three versions answer alike, of a right table and of one with a wrong place, which is put right again.
+fn answer_alike(w: u32, h: u32, by_square: bool, ours: &mut [u32], theirs: &mut [u32], best: &mut [u32]) {
+    let blocks = fill(w, h, ours, by_square);
+    assert_eq!((blocks, blocks), (versions::fill(w, h, theirs, by_square), strong::fill(w, h, best, by_square)));
+    assert!(ours == theirs && ours == best);
+    let middle = ours.len() / 2;
+    ours[middle] += 1;
+    let wrong = Ok(Some((middle as u32, theirs[middle])));
+    assert_eq!((check(w, h, ours, by_square), versions::check(w, h, ours, by_square)), (wrong, wrong));
+    assert_eq!(strong::check(w, h, ours, by_square), wrong);
+    ours[middle] -= 1;
+}
+
+// The least time a square of fill and check, each in the library, in Rust and in the best Rust, and of writing the index. One call on a small table would be
 // too short for the clock, so a round has several.
-fn least_of_tables(w: u32, h: u32, by_square: bool) -> [f64; 6] {
+fn least_of_tables(w: u32, h: u32, by_square: bool) -> [f64; 7] {
     let n = w as usize * h as usize;
     let (mut ours, mut theirs, mut index) = (vec![0; n], vec![0; n], vec![0; n]);
-    assert_eq!(fill(w, h, &mut ours, by_square), versions::fill(w, h, &mut theirs, by_square));
-    assert_eq!(ours, theirs);
-    assert_eq!(strong::fill(w, h, &mut index, by_square), fill(w, h, &mut ours, by_square));
-    assert_eq!(ours, index);
-    ours[n / 2] += 1;
-    assert_eq!(check(w, h, &ours, by_square), Ok(Some((n as u32 / 2, theirs[n / 2]))));
-    assert_eq!(check(w, h, &ours, by_square), versions::check(w, h, &ours, by_square));
+    answer_alike(w, h, by_square, &mut ours, &mut theirs, &mut index);
     let calls = 300_000usize.div_ceil(n);
     let time = |call: &mut dyn FnMut()| time(n * calls, || (0..calls).for_each(|_| call()));
-    let mut best = [f64::MAX; 6];
+    let mut best = [f64::MAX; 7];
     for _ in 0..7 {
         let round = [
             time(&mut || _ = black_box(fill(w, h, black_box(&mut ours), by_square))),
@@ -151,6 +158,7 @@ fn least_of_tables(w: u32, h: u32, by_square: bool) -> [f64; 6] {
             time(&mut || _ = black_box(strong::fill(w, h, black_box(&mut theirs), by_square))),
             time(&mut || assert_eq!(check(w, h, black_box(&ours), by_square), Ok(None))),
             time(&mut || assert_eq!(versions::check(w, h, black_box(&theirs), by_square), Ok(None))),
+            time(&mut || assert_eq!(strong::check(w, h, black_box(&theirs), by_square), Ok(None))),
             time(&mut || index_fill(black_box(&mut index))),
         ];
         for (b, r) in best.iter_mut().zip(round) {
@@ -162,13 +170,15 @@ fn least_of_tables(w: u32, h: u32, by_square: bool) -> [f64; 6] {
 
 fn tables() {
     println!("\n### Tables\n\nNanoseconds a square, the least of seven rounds over the whole area, or over a small one several times.\n");
-    println!("| area | kind | fill | Rust fill | ratio | best Rust fill | ratio | to writing the index | check | Rust check | ratio |");
-    println!("|---|---|---|---|---|---|---|---|---|---|---|");
+    print!("| area | kind | fill | Rust fill | ratio | best Rust fill | ratio | to writing the index ");
+    println!("| check | Rust check | ratio | best Rust check | ratio | to the fill |");
+    println!("|{}", "---|".repeat(14));
     for (w, h) in [(64, 64), (33, 47), (256, 256), (1024, 1024), (4096, 4096), (8192, 8192), (4095, 4097), (3000, 5000), (40000, 400)] {
         for (by_square, kind) in [(false, "by number"), (true, "by square")] {
-            let [fill, rust, strong, check, rust_check, index] = least_of_tables(w, h, by_square);
-            print!("| {w} by {h} | {kind} | {fill:.2} | {rust:.2} | {:.2} | {strong:.2} | {:.2} | {:.2} ", fill / rust, fill / strong, fill / index);
-            println!("| {check:.2} | {rust_check:.2} | {:.2} |", check / rust_check);
+            let [fill, rust, best, check, rust_check, best_check, index] = least_of_tables(w, h, by_square);
+            print!("| {w} by {h} | {kind} | {fill:.2} | {rust:.2} | {:.2} | {best:.2} | {:.2} | {:.2} ", fill / rust, fill / best, fill / index);
+            print!("| {check:.2} | {rust_check:.2} | {:.2} ", check / rust_check);
+            println!("| {best_check:.2} | {:.2} | {:.2} |", check / best_check, check / fill);
         }
     }
 }
