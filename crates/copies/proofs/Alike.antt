@@ -17,7 +17,8 @@ use Rattle.division.proofs.Blocks.{whole-inside}
 use Rattle.division.proofs.Local.{spot, Within, spot-inside, whole-within, getD-map-in, square-alike, count-alike}
 use Rattle.leaves.specs.Walk.{place, over, enter-one, filled-with}
 use Rattle.leaves.proofs.Entries.{place-below, squares-fit}
-use Rattle.copies.specs.Copies.{image, facing, copied, Again}
+use Rattle.copies.specs.Copies.{image, facing, copied, Agree, Held, Again}
+use Rattle.copies.proofs.Entered.{held-places, places-held}
 
 -- a block's start has its place in the table
 pub start-below : (w h : ℕ) (k : Block) → Inside w h k → place w (k .start) < w * h
@@ -75,6 +76,22 @@ image-away true false c n is l m m′ lies lies′ = omega arith
 image-away false true c n is l m m′ lies lies′ = omega arith
 image-away false false c n is l m m′ lies lies′ = omega arith
 
+-- the i-th square of a block's own area, and its place in the table
+own-within : (w h : ℕ) (k : Block) → Inside w h k → (i : ℕ) → i < k .a * k .b → Within (k .a) (k .b) (square-of (whole (k .a) (k .b)) i)
+unfolding whole
+own-within w h k inside i l =
+    let own = whole-inside (k .a) (k .b) (inside .sized .run) (inside .sized .side) in
+    whole-within (k .a) (k .b) (square-of (whole (k .a) (k .b)) i) (square-held (k .a) (k .b) (whole (k .a) (k .b)) own i l)
+
+pub entry-below : (w h : ℕ) (k : Block) → Inside w h k → (i : ℕ) → i < k .a * k .b → getD (map (place w) (curve k)) i 0 < w * h
+unfolding square-of whole
+entry-below w h k inside i l =
+    let s = square-of (whole (k .a) (k .b)) i in
+    let long = length-curve k (inside .sized) in
+    subst⁻¹ (λ (n : ℕ). n < w * h)
+    (getD-map-in (place w) (curve k) i 0 (square 0 0) (omega arith) ∙ ap (place w) (square-alike w h k inside i l))
+    (place-below w h (spot k s) (spot-inside w h k inside s (own-within w h k inside i l)))
+
 -- both have as many squares
 pub same-squares : {w h : ℕ} {t : List ℕ} {j : Block} {from : ℕ} {k : Block} {to : ℕ} {opposite : Bool} → Again w h t j from k to opposite
     → k .a * k .b ≡ j .a * j .b
@@ -117,15 +134,13 @@ module _ {w h : ℕ} {t : List ℕ} {j : Block} {from : ℕ} {k : Block} {to : �
       let there = again .fits .inside in
       let here = again .inside in
       let s = square-of (whole (k .a) (k .b)) i in
-      let whole-there = whole-inside (k .a) (k .b) (there .sized .run) (there .sized .side) in
-      let within = whole-within (k .a) (k .b) s (square-held (k .a) (k .b) (whole (k .a) (k .b)) whole-there i l) in
       let same = same-squares again in
       let j-long = length-curve j (here .sized) in
       let k-long = length-curve k (there .sized) in
       getD-map-in (λ s. image opposite c (place w s)) (curve j) i 0 (square 0 0) (omega arith)
       ∙ ap (λ s. image opposite c (place w s))
       (square-alike w h j here i (omega arith) ∙ ap₂ (λ m n. spot j (square-of (whole m n) i)) (sym (again .same-a)) (sym (again .same-b)))
-      ∙ place-alike s within
+      ∙ place-alike s (own-within w h k there i l)
       ∙ sym
       (getD-map-in (place w) (curve k) i 0 (square 0 0) (omega arith)
       ∙ ap (place w) (square-alike w h k there i l))
@@ -138,6 +153,31 @@ module _ {w h : ℕ} {t : List ℕ} {j : Block} {from : ℕ} {k : Block} {to : �
       let same = same-squares again in
       map-map (image opposite c) (place w) (curve j)
       ∙ ext-getD 0 (map images (curve j)) (map (place w) (curve k)) (omega arith) (λ i l. entry-alike i (omega arith))
+
+  -- an entry of the one block and of the other
+  image-entry : (i : ℕ) → i < k .a * k .b → image opposite c (getD (map (place w) (curve j)) i 0) ≡ getD (map (place w) (curve k)) i 0
+  image-entry i l =
+      let long = length-curve j (again .inside .sized) in
+      let same = same-squares again in
+      let below : i < length (curve j) = omega arith in
+      ap (image opposite c) (getD-map-in (place w) (curve j) i 0 (square 0 0) below)
+      ∙ sym (getD-map-in (λ s. image opposite c (place w s)) (curve j) i 0 (square 0 0) below)
+      ∙ entry-alike i l
+
+  j-entry : (i : ℕ) → i < k .a * k .b → image opposite c (getD t (from + i) 0) ≡ getD (map (place w) (curve k)) i 0
+  j-entry i l =
+      let same = same-squares again in
+      ap (image opposite c) (held-places w t j from (again .held) i (omega arith)) ∙ image-entry i l
+
+  -- places that agree are the other block's
+  pub agree-held : Agree opposite c t from to (k .a * k .b) → Held w t k to
+  agree-held agree =
+      let room = again .fits .room in
+      let size = again .fits .size in
+      places-held w t k to (again .fits .inside .sized) (omega arith) (λ i l. agree i l ∙ j-entry i l)
+
+  pub held-agree : Held w t k to → Agree opposite c t from to (k .a * k .b)
+  held-agree held i l = held-places w t k to held i l ∙ sym (j-entry i l)
 
   -- the copy of the one block's places is the other block, entered
   pub copied-filled : copied opposite c t from to (k .a * k .b) ≡ filled-with false w t k to

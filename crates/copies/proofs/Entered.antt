@@ -1,19 +1,23 @@
 -- What is entered by number from a place on: the places before it stay, and what is entered stands there. So a block that is entered is held, and stays so
 -- under what is entered behind it.
-use mathlib.Core.Bool.{Bool, false}
+use mathlib.Core.Bool.{Bool, false, _&&_, and-eq-true-iff}
 use mathlib.Core.List.{List, [], _∷_, _++_, map, map-append, append-assoc}
 use mathlib.Core.Path.{_≡_, refl, sym, ap, ap₂, _∙_}
 use Prim.Native.Nat.{ℕ, suc, _+_, _-_, _*_, _≤_, _<_}
 use native.Mathlib.Nat.{add-zero, add-suc, suc-add}
 use native.Mathlib.Numerals.{add-one}
 use native.Mathlib.Omega.{arith}
+use borrow.Author.Count.{below-more}
+use borrow.Author.Tests.{eqb-true, eq-eqb}
+use lib.Dec.{eqb}
 use lib.ListN.{length, getD, take, drop, set, length-set, length-drop, length-map, take-append-drop}
-use lib.Seq.{length-take-le, take-suc, take-add, take-at, drop-at, take-set-le, drop-set-lt, take-suc-set, getD-take, getD-drop}
+use lib.Seq.{length-take-le, take-suc, take-add, take-at, drop-at, take-set-le, drop-set-lt, take-suc-set, getD-take, getD-drop, ext-getD}
 use Rattle.division.specs.Division.{Block, curve}
+use Rattle.division.specs.Division.Inside.{Sized}
 use Rattle.division.proofs.Once.{length-curve}
 use Rattle.leaves.specs.Walk.{place, over, enter-one, filled-with, Fits}
 use Rattle.leaves.proofs.Entries.{enter-length, over-append}
-use Rattle.copies.specs.Copies.{image, copied, Held}
+use Rattle.copies.specs.Copies.{image, copied, Agree, Tells, Held}
 
 -- the places before
 over-front : (m : ℕ) (t : List ℕ) (n : ℕ) (ps : List ℕ) → m ≤ n → take m (over (enter-one false) t n ps) ≡ take m t
@@ -57,6 +61,31 @@ copied-more opposite c t from to i l room was is-v is-next =
     ∙ over-append (enter-one false) t to (map (image opposite c) (take i rest)) (image opposite c x ∷ [])
     ∙ ap (λ n. set (copied opposite c t from to i) (to + n) (image opposite c x))
     (length-map (take i rest) (image opposite c) ∙ length-take-le i rest (omega arith)))
+
+-- one place of a comparison more, as the code looks at it
+pub agree-more : (opposite : Bool) (c : ℕ) (t : List ℕ) (from to i : ℕ) {same : Bool} {v : ℕ} → v ≡ image opposite c (getD t (from + i) 0)
+    → Tells same (Agree opposite c t from to i) → Tells (same && eqb (getD t (to + i) 0) v) (Agree opposite c t from to (i + 1))
+agree-more opposite c t from to i {same} {v} is tells =
+    let both = and-eq-true-iff same (eqb (getD t (to + i) 0) v) in (
+      λ e. below-more _ i (tells .0 (both .0 e .0)) (eqb-true (getD t (to + i) 0) v (both .0 e .1) ∙ is),
+      λ agree. both .1 (tells .1 (λ j l. agree j (omega arith)), eq-eqb (getD t (to + i) 0) v (agree i (omega arith) ∙ sym is)),
+    )
+
+-- a block that stands in the table, place by place
+pub held-places : (w : ℕ) (t : List ℕ) (k : Block) (from : ℕ) → Held w t k from → (i : ℕ) → i < k .a * k .b
+    → getD t (from + i) 0 ≡ getD (map (place w) (curve k)) i 0
+held-places w t k from held i l =
+    sym (getD-take (k .a * k .b) (drop from t) i 0 l ∙ getD-drop from t i 0) ∙ ap (λ zs. getD zs i 0) held
+
+pub places-held : (w : ℕ) (t : List ℕ) (k : Block) (from : ℕ) → Sized k → from + k .a * k .b ≤ length t
+    → ((i : ℕ) → i < k .a * k .b → getD t (from + i) 0 ≡ getD (map (place w) (curve k)) i 0) → Held w t k from
+places-held w t k from sized room same =
+    let n = k .a * k .b in
+    let left = length-drop from t in
+    let long = length-take-le n (drop from t) (omega arith) in
+    let long-k = length-map (curve k) (place w) ∙ length-curve k sized in
+    ext-getD 0 (take n (drop from t)) (map (place w) (curve k)) (long ∙ sym long-k)
+    (λ i l. let below : i < n = omega arith in getD-take n (drop from t) i 0 below ∙ getD-drop from t i 0 ∙ same i below)
 
 -- a block that is entered stands in the table
 pub over-held : {w h : ℕ} {t : List ℕ} {k : Block} {at : ℕ} → Fits w h t k at → Held w (filled-with false w t k at) k at

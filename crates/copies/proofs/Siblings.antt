@@ -2,15 +2,21 @@
 use mathlib.Core.Bool.{true, false}
 use mathlib.Core.List.{List}
 use mathlib.Core.Path.{_≡_, sym, ap, ap₂, _∙_}
-use Prim.Native.Nat.{ℕ, _+_, _-_, _*_, _/_}
+use Prim.Native.Nat.{ℕ, _+_, _-_, _*_, _/_, _≤_}
 use native.Mathlib.Omega.{arith}
 use lib.ListN.{length}
 use Rattle.division.specs.declared.Choice.the-variants.{LongCut, UCut}
 use Rattle.division.specs.declared.Placed.{Placed}
 use Rattle.division.specs.Division.{Block, against, even-half, First, Second, A, C, part}
 use Rattle.division.specs.Forms.{block}
+use Rattle.division.proofs.Rules.{halves}
+use Rattle.division.proofs.Cases.{long-lengths}
 use Rattle.leaves.proofs.Parts.{Cut, first-call, second-call, a-call, c-call}
 use Rattle.copies.specs.Copies.{Held, Again}
+
+-- the long cut's first part is no longer than the run
+pub first-fits : {w h : ℕ} {t : List ℕ} {k : Block} {at m : ℕ} → Cut LongCut w h t k at m → {e : ℕ} → e ≡ even-half (k .a) → e ≤ k .a
+first-fits {k = k} cut half = let less = halves (k .a) (long-lengths k (cut .1 .0 .inside .sized) (cut .1 .1) .0) in omega arith
 
 module _ {w h : ℕ} {t : List ℕ} {k : Block} {at m : ℕ} (cut : Cut LongCut w h t k at m) {e : ℕ} (half : e ≡ even-half (k .a))
     (p q : Placed) (is-p : block p ≡ part First k) (is-q : block q ≡ part Second k) where

@@ -3,8 +3,8 @@
 use mathlib.Core.Bool.{Bool, true, false, cond}
 use mathlib.Core.List.{List, map}
 use mathlib.Core.Path.{_≡_}
-use Prim.Native.Nat.{ℕ, _+_, _-_, _*_, _%_, _≤_}
-use lib.ListN.{take, drop}
+use Prim.Native.Nat.{ℕ, _+_, _-_, _*_, _%_, _≤_, _<_}
+use lib.ListN.{getD, take, drop}
 use Rattle.terms.specs.Terms.{past-32-bits}
 use Rattle.division.specs.Division.{Direction, Block, against, curve}
 use Rattle.division.specs.Division.Inside.{Inside}
@@ -23,9 +23,17 @@ facing opposite d = cond opposite (against d) d
 abbrev pub copied : (opposite : Bool) (c : ℕ) → List ℕ → (from to n : ℕ) → List ℕ
 copied opposite c t from to n = over (enter-one false) t to (map (image opposite c) (take n (drop from t)))
 
+-- Each of n places from `to` on is what a copy would enter there.
+abbrev pub Agree : (opposite : Bool) (c : ℕ) → List ℕ → (from to n : ℕ) → Type 0
+Agree opposite c t from to n = (i : ℕ) → i < n → getD t (to + i) 0 ≡ image opposite c (getD t (from + i) 0)
+
 -- The places of a block's squares, in the curve's order, stand in the table from `from` on.
 abbrev pub Held : (w : ℕ) → List ℕ → Block → (from : ℕ) → Type 0
 Held w t k from = take (k .a * k .b) (drop from t) ≡ map (place w) (curve k)
+
+-- A test tells whether something holds.
+abbrev pub Tells : Bool → Type 0 → Type 0
+Tells r P = (r ≡ true → P) × (P → r ≡ true)
 
 -- Block k, which has its room from `to` on, repeats block j, which stands in the table from `from` on, before it.
 pub record Again (w h : ℕ) (t : List ℕ) (j : Block) (from : ℕ) (k : Block) (to : ℕ) (opposite : Bool) : Type 0 where

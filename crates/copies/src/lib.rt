@@ -1,4 +1,4 @@
-// A block of a table by number that repeats another one: copied from the table's own earlier places in one straight loop, in place of being walked.
+// A block of a table by number that repeats another one: copied from the table's own earlier places, or compared with them, in one straight loop.
 use division::Placed;
 use terms::Area;
 ghost use mathlib.Core.Bool.{false};
@@ -9,7 +9,7 @@ ghost use Rattle.terms.specs.Terms.{longest-side};
 ghost use Rattle.division.specs.Division.Inside.{Inside};
 ghost use Rattle.division.specs.Forms.{block};
 ghost use Rattle.leaves.specs.Walk.{place, filled-with};
-ghost use Rattle.copies.specs.Copies.{image, copied, Again};
+ghost use Rattle.copies.specs.Copies.{image, copied, Agree, Tells, Held, Again};
 
 // A place of one block as the other has it. Near 65,535 by 65,535 the sum of two places has not 32 bits: what wraps there wraps back.
 fn image_of(x: u32, c: u32, opposite: bool) -> u32
@@ -21,7 +21,7 @@ fn image_of(x: u32, c: u32, opposite: bool) -> u32
     std::num::wrapping_add_u32(x, c)
 }
 
-// Enters n places from `to` on. The loop has no branch, so that the compiler takes many places at a time.
+// Enters n places from `to` on. No turn of the loop waits for another, so that the compiler takes many places at a time.
 fn copy(table: &mut [u32], from: usize, to: usize, n: usize, c: u32, opposite: bool)
     requires { ⌜ (from + n ≤ to) × (to + n ≤ length (now table)) ⌝ }
     ensures { λ r. ⌜ now (table .exit) ≡ copied «opposite» c (now (table .entry)) from to n ⌝ }
@@ -29,6 +29,18 @@ fn copy(table: &mut [u32], from: usize, to: usize, n: usize, c: u32, opposite: b
     for i in 0..n {
         table[to + i] = image_of(table[from + i], c, opposite);
     }
+}
+
+// Whether n places from `to` on are what a copy would enter. It looks at all of them: a loop that could end early would take them one by one.
+fn agree(table: &[u32], from: usize, to: usize, n: usize, c: u32, opposite: bool) -> bool
+    requires { ⌜ (from + n ≤ to) × (to + n ≤ length (now table)) ⌝ }
+    ensures { λ r. ⌜ Tells r (Agree «opposite» c (now (table .entry)) from to n) ⌝ }
+{
+    let mut same = true;
+    for i in 0..n {
+        same = same & (table[to + i] == image_of(table[from + i], c, opposite));
+    }
+    same
 }
 
 // The constant between the places of two blocks, by those of their starts.
@@ -61,4 +73,22 @@ pub fn fill_again(
     let c = between(j, k, area, opposite);
     let n = k.a * k.b;
     copy(table, from as usize, to as usize, n as usize, c, opposite);
+}
+
+// Whether block k stands in the table from `to` on, by comparing it with block j, which it repeats, from `from` on.
+pub fn holds_again(
+    table: &[u32],
+    j: Placed,
+    from: u32,
+    k: Placed,
+    to: u32,
+    area: Area,
+    opposite: bool,
+) -> bool
+    requires { ⌜ Again (area .w) (area .h) (now table) (block j) from (block k) to «opposite» ⌝ }
+    ensures { λ r. ⌜ Tells r (Held (area .w) (now (table .entry)) (block k) to) ⌝ }
+{
+    let c = between(j, k, area, opposite);
+    let n = k.a * k.b;
+    agree(table, from as usize, to as usize, n as usize, c, opposite)
 }

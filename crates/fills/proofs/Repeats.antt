@@ -2,7 +2,7 @@
 use mathlib.Core.Bool.{Bool, true, false, not}
 use mathlib.Core.List.{List, map}
 use mathlib.Core.Path.{_≡_, sym, ap, ap₂, subst⁻¹, _∙_}
-use Prim.Native.Nat.{ℕ, _+_, _-_, _*_, _/_, _%_, _≤_}
+use Prim.Native.Nat.{ℕ, _+_, _-_, _*_, _/_, _%_}
 use native.Mathlib.Omega.{arith}
 use borrow.Author.Tests.{not-true}
 use lib.ListN.{length}
@@ -10,17 +10,11 @@ use Rattle.division.specs.declared.Choice.the-variants.{LongCut, UCut}
 use Rattle.division.specs.declared.Placed.{Placed}
 use Rattle.division.specs.Division.{Block, even-half, First, Second, A, C, part, curve}
 use Rattle.division.specs.Forms.{block}
-use Rattle.division.proofs.Rules.{halves}
-use Rattle.division.proofs.Cases.{long-lengths}
 use Rattle.leaves.specs.Walk.{place, filled-with, Fits}
 use Rattle.leaves.proofs.Parts.{Cut, first-call, a-call}
 use Rattle.copies.specs.Copies.{Held, Again}
 use Rattle.copies.proofs.Entered.{over-held, held-on}
 use Rattle.copies.proofs.Siblings.{second-again, c-again}
-
--- the long cut's first part is no longer than the run
-pub first-fits : {w h : ℕ} {t : List ℕ} {k : Block} {at m : ℕ} → Cut LongCut w h t k at m → {e : ℕ} → e ≡ even-half (k .a) → e ≤ k .a
-first-fits {k = k} cut half = let less = halves (k .a) (long-lengths k (cut .1 .0 .inside .sized) (cut .1 .1) .0) in omega arith
 
 module _ (by-square : Bool) (by-number : not by-square ≡ true) where
   -- a fill by number is a fill of the kind that is asked

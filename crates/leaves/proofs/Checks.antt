@@ -60,7 +60,8 @@ module _ (by-square : Bool) (t : List ℕ) where
   some-one P least n p true e a b = a
   some-one P least n p false e a b = lesser P least (looked n p) (ltb (looked n p) least) refl a (b (eqb-false _ _ e))
 
-  over-most : (least n : ℕ) (ps : List ℕ) → over (least-one by-square t) least n ps ≤ least
+  -- the least only falls
+  pub over-most : (least n : ℕ) (ps : List ℕ) → over (least-one by-square t) least n ps ≤ least
   unfolding over
   over-most least n [] = omega arith
   over-most least n (p ∷ ps) =

@@ -9,8 +9,9 @@ use Rattle.leaves.proofs.Entries.{largest}
 use Rattle.leaves.proofs.Parts.{to-cut, part-asks, first-call, second-call, second-number, long-steps, a-call, b-call, c-call, u-deep, u-numbers, u-steps}
 use Rattle.leaves.proofs.Parts.{side-call, side-over}
 use Rattle.copies.proofs.Alike.{again-count}
+use Rattle.copies.proofs.Siblings.{first-fits}
 use Rattle.fills.proofs.Counts.{few, long-count, u-count, side-count}
-use Rattle.fills.proofs.Repeats.{copied-so, first-fits, second-asks, c-asks}
+use Rattle.fills.proofs.Repeats.{copied-so, second-asks, c-asks}
 use borrow.Fn.Kinds.{In}
 use borrow.Fn.PlainCycle.{Measures, is, falls, and}
 use Rattle.fills.proofs.fill_block.Reads as fill-block
