@@ -2,13 +2,16 @@
 use division::Choice;
 use division::Placed;
 use terms::Area;
+ghost use mathlib.Core.Bool.{false, cond};
 ghost use mathlib.Core.Path.{_≡_};
+ghost use lib.Dec.{leb};
 ghost use Rattle.division.specs.declared.Choice.the-variants.{LongCut, UCut};
 ghost use Rattle.division.specs.Division.{choice};
 ghost use Rattle.division.specs.Forms.{block, block-at};
-ghost use Rattle.leaves.specs.Walk.{checked, Fits};
+ghost use Rattle.leaves.specs.Walk.{wrong-packed, checked, Fits};
 
-// A block, its fields handed on one by one: handed on whole it would be copied at each call, which nearly doubles the time.
+// A block, its fields handed on one by one: handed on whole it would be copied at each call, which nearly doubles the time. By number what was found
+// before the block stays the least, and nothing more is looked at.
 pub fn check_block(
     table: &[u32],
     k: Placed,
@@ -20,6 +23,11 @@ pub fn check_block(
     requires { ⌜ Fits (area .w) (area .h) (now table) (block k) at ⌝ }
     ensures { λ r. ⌜ r ≡ checked «by_square» (area .w) (now (table .entry)) (block k) at «so_far» ⌝ }
 {
+    if !by_square {
+        if so_far < leaves::pack_wrong(at, 0) {
+            return so_far;
+        }
+    }
     check_choice(
         table,
         k.along,
@@ -83,7 +91,20 @@ fn check_choice(
     }
 }
 
-// The two parts of a long cut.
+// Whether a part from `to` on, alike to another before it, may be compared with that: by number, where nothing before it is wrong.
+fn comparable(by_square: bool, alike: bool, to: u32, least: u64) -> bool
+    ensures { λ r. ⌜ r ≡ cond «by_square» false (cond alike (leb (wrong-packed to 0) least) false) ⌝ }
+{
+    if by_square {
+        return false;
+    }
+    if alike {
+        return leaves::pack_wrong(to, 0) <= least;
+    }
+    false
+}
+
+// The two parts of a long cut. By number the second repeats the first where it is as long: if it agrees with it, nothing in it is wrong.
 fn check_long_cut(
     table: &[u32],
     k: Placed,
@@ -95,26 +116,20 @@ fn check_long_cut(
     requires { ⌜ Fits (area .w) (area .h) (now table) (block k) at × (choice (k .a) (k .b) ≡ LongCut) ⌝ }
     ensures { λ r. ⌜ r ≡ checked «by_square» (area .w) (now (table .entry)) (block k) at «so_far» ⌝ }
 {
-    let to_second = at + division::even_half(k.a) * k.b;
-    let first = check_block(
-        table,
-        division::long_part(k, false),
-        area,
-        at,
-        by_square,
-        so_far,
-    );
-    check_block(
-        table,
-        division::long_part(k, true),
-        area,
-        to_second,
-        by_square,
-        first,
-    )
+    let e = division::even_half(k.a);
+    let to_second = at + e * k.b;
+    let near = division::long_part(k, false);
+    let far = division::long_part(k, true);
+    let first = check_block(table, near, area, at, by_square, so_far);
+    if comparable(by_square, e == k.a - e, to_second, first) {
+        if copies::holds_again(table, near, at, far, to_second, area, false) {
+            return first;
+        }
+    }
+    check_block(table, far, area, to_second, by_square, first)
 }
 
-// The three parts of a U cut.
+// The three parts of a U cut. By number C repeats A, turned round, where the run is even.
 fn check_u_cut(table: &[u32], k: Placed, area: Area, at: u32, by_square: bool, so_far: u64) -> u64
     requires { ⌜ Fits (area .w) (area .h) (now table) (block k) at × (choice (k .a) (k .b) ≡ UCut) ⌝ }
     ensures { λ r. ⌜ r ≡ checked «by_square» (area .w) (now (table .entry)) (block k) at «so_far» ⌝ }
@@ -122,7 +137,14 @@ fn check_u_cut(table: &[u32], k: Placed, area: Area, at: u32, by_square: bool, s
     let e = division::even_half(k.b);
     let to_b = at + e * (k.a / 2);
     let to_c = to_b + k.a * (k.b - e);
-    let a = check_block(table, division::part_a(k), area, at, by_square, so_far);
+    let up = division::part_a(k);
+    let down = division::part_c(k);
+    let a = check_block(table, up, area, at, by_square, so_far);
     let b = check_block(table, division::part_b(k), area, to_b, by_square, a);
-    check_block(table, division::part_c(k), area, to_c, by_square, b)
+    if comparable(by_square, k.a % 2 == 0, to_c, b) {
+        if copies::holds_again(table, up, at, down, to_c, area, true) {
+            return b;
+        }
+    }
+    check_block(table, down, area, to_c, by_square, b)
 }

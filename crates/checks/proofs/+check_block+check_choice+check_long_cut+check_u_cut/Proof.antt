@@ -1,13 +1,16 @@
--- The four functions of a check meet their contracts, by the laws of `Parts`: the parts' looks in order are the block's. The measure is three times the
--- block's area, plus 0 for a cut, 1 for `check_choice` and 2 for `check_block`: block, choice and cut are three calls on one block.
+-- The four functions of a check meet their contracts, by the laws of `Parts` and `Repeats`: the parts' looks in order, walked or compared, are the block's.
+-- The measure is three times the block's area, plus 0 for a cut, 1 for `check_choice` and 2 for `check_block`, which are three calls on one block.
 use mathlib.Core.Path.{refl, sym, _∙_}
 use Prim.Native.Nat.{ℕ, _+_, _*_, _<_}
 use native.Mathlib.Omega.{arith}
+use Rattle.division.specs.Forms.{block}
 use Rattle.division.proofs.Walks.{a-limit, b-limit}
 use Rattle.leaves.specs.Walk.{least-one}
 use Rattle.leaves.proofs.Entries.{largest}
 use Rattle.leaves.proofs.Parts.{to-cut, part-asks, first-call, second-call, second-number, long-steps, a-call, b-call, c-call, u-deep, u-numbers, u-steps}
 use Rattle.leaves.proofs.Parts.{side-call, side-over}
+use Rattle.copies.proofs.Siblings.{first-fits}
+use Rattle.checks.proofs.Repeats.{found-before, second-asks, second-stands, c-asks, c-stands}
 use borrow.Fn.Kinds.{In}
 use borrow.Fn.PlainCycle.{Measures, is, falls, and}
 use Rattle.checks.proofs.check_block.Reads as check-block
@@ -31,6 +34,9 @@ use Rattle.division.proofs.part_c.Reads as part-c-reads
 use Rattle.leaves.proofs.check_leaf.Reads as check-leaf-reads
 use Rattle.leaves.proofs.check_run.Reads as check-run-reads
 use Rattle.leaves.proofs.exchanged_block.Reads as exchanged-block-reads
+use Rattle.leaves.proofs.pack_wrong.Reads as pack-wrong-reads
+use Rattle.copies.proofs.holds_again.Reads as holds-again-reads
+use Rattle.checks.proofs.comparable.Reads as comparable-reads
 use Rattle.checks.proofs.+check_block+check_choice+check_long_cut+check_u_cut.{statement}
 use Rattle.checks.proofs.+check_block+check_choice+check_long_cut+check_u_cut.Tie.{close}
 
@@ -73,7 +79,12 @@ check-u-cut-below t = and 1 check-u-cut-kinds.ps (falls 1 check-u-cut-kinds.ps _
 
 -- what is asked and learnt at each call of `check-block`
 abbrev check-block-calls : ℕ → check-block-lts.Claims
-check-block-calls t = (check-choice-below t, check-choice.Post)
+check-block-calls t = (
+  pack-wrong-reads.Asked,
+  pack-wrong-reads.Learnt,
+  check-choice-below t,
+  check-choice.Post,
+)
 
 -- what is asked and learnt at each call of `check-choice`
 abbrev check-choice-calls : ℕ → check-choice-lts.Claims
@@ -94,7 +105,18 @@ check-choice-calls t = (
 
 -- what is asked and learnt at each call of `check-long-cut`
 abbrev check-long-cut-calls : ℕ → check-long-cut-lts.Claims
-check-long-cut-calls t = (even-half-reads.Asked, even-half-reads.Learnt, long-part-reads.Asked, long-part-reads.Learnt, check-block-below t, check-block.Post)
+check-long-cut-calls t = (
+  even-half-reads.Asked,
+  even-half-reads.Learnt,
+  long-part-reads.Asked,
+  long-part-reads.Learnt,
+  check-block-below t,
+  check-block.Post,
+  comparable-reads.Asked,
+  comparable-reads.Learnt,
+  holds-again-reads.Asked,
+  holds-again-reads.Learnt,
+)
 
 -- what is asked and learnt at each call of `check-u-cut`
 abbrev check-u-cut-calls : ℕ → check-u-cut-lts.Claims
@@ -103,19 +125,37 @@ check-u-cut-calls t = (
   even-half-reads.Learnt,
   part-a-reads.Asked,
   part-a-reads.Learnt,
+  part-c-reads.Asked,
+  part-c-reads.Learnt,
   check-block-below t,
   check-block.Post,
   part-b-reads.Asked,
   part-b-reads.Learnt,
-  part-c-reads.Asked,
-  part-c-reads.Learnt,
+  comparable-reads.Asked,
+  comparable-reads.Learnt,
+  holds-again-reads.Asked,
+  holds-again-reads.Learnt,
 )
 
-check-block-check-choice-requires : (t : ℕ) → check-block-lts.Need-check-choice-requires (check-block-calls t) (check-block-at t) check-block.Post
-check-block-check-choice-requires t c κs = (let m = c .before .pre .0 in omega arith, c .before .pre .1)
+check-block-pack-wrong-requires : (t : ℕ) → check-block-lts.Need-pack-wrong-requires (check-block-calls t) (check-block-at t) check-block.Post
+check-block-pack-wrong-requires t c κs = tt
 
 check-block-returns : (t : ℕ) → check-block-lts.Need-returns (check-block-calls t) (check-block-at t) check-block.Post
-check-block-returns t c = c .check-choice .ensures
+check-block-returns t c =
+    let packed = c .before in
+    let kind = packed .before in
+    let start = kind .before .before in
+    let given = start .args in
+    found-before (given .area .w) (given .table .now) (block (given .k)) (given .at) (given .so-far) (given .by-square) (kind .if1 .taken)
+    (packed .pack-wrong .ensures) (c .if2 .taken)
+
+check-block-check-choice-requires : (t : ℕ) → check-block-lts.Need-check-choice-requires (check-block-calls t) (check-block-at t) check-block.Post
+check-block-check-choice-requires t c κs =
+    let start = c .before .before in
+    (let m = start .pre .0 in omega arith, start .pre .1)
+
+check-block-returns-2 : (t : ℕ) → check-block-lts.Need-returns-2 (check-block-calls t) (check-block-at t) check-block.Post
+check-block-returns-2 t c = c .check-choice .ensures
 
 check-choice-choose-requires : (t : ℕ) → check-choice-lts.Need-choose-requires (check-choice-calls t) (check-choice-at t) check-choice.Post
 check-choice-choose-requires t c κs = (a-limit _ (largest (c .before .pre .1)), b-limit _ (largest (c .before .pre .1)))
@@ -195,28 +235,74 @@ check-long-cut-add-to-second t c = record { fits = second-number (c .before .bef
 check-long-cut-long-part-requires : (t : ℕ) → check-long-cut-lts.Need-long-part-requires (check-long-cut-calls t) (check-long-cut-at t) check-long-cut.Post
 check-long-cut-long-part-requires t c κs = part-asks (c .before .before .before .pre)
 
+check-long-cut-long-part-requires-2 : (t : ℕ) → check-long-cut-lts.Need-long-part-requires-2 (check-long-cut-calls t) (check-long-cut-at t) check-long-cut.Post
+check-long-cut-long-part-requires-2 t c κs = part-asks (c .before .before .before .before .pre)
+
 check-long-cut-check-block-requires : (t : ℕ) → check-long-cut-lts.Need-check-block-requires (check-long-cut-calls t) (check-long-cut-at t) check-long-cut.Post
 check-long-cut-check-block-requires t c κs =
-    let halved = c .before .before in
-    first-call (halved .before .before .pre) (halved .even-half .ensures) (c .long-part .result) (c .long-part .ensures)
+    let near = c .before in
+    let halved = near .before .before in
+    first-call (halved .before .before .pre) (halved .even-half .ensures) (near .long-part .result) (near .long-part .ensures)
 
-check-long-cut-long-part-requires-2 : (t : ℕ) → check-long-cut-lts.Need-long-part-requires-2 (check-long-cut-calls t) (check-long-cut-at t) check-long-cut.Post
-check-long-cut-long-part-requires-2 t c κs = part-asks (c .before .before .before .before .before .pre)
+check-long-cut-sub-comparable : (t : ℕ) → check-long-cut-lts.Need-sub-comparable (check-long-cut-calls t) (check-long-cut-at t) check-long-cut.Post
+check-long-cut-sub-comparable t c =
+    let first = c .before in
+    let far = first .before in
+    let near = far .before in
+    let halved = near .before .before in
+    let start = halved .before .before in
+    first-fits (start .pre) (halved .even-half .ensures)
+
+check-long-cut-comparable-requires : (t : ℕ) → check-long-cut-lts.Need-comparable-requires (check-long-cut-calls t) (check-long-cut-at t) check-long-cut.Post
+check-long-cut-comparable-requires t c κs = tt
+
+check-long-cut-holds-again-requires : (t : ℕ) → check-long-cut-lts.Need-holds-again-requires (check-long-cut-calls t) (check-long-cut-at t) check-long-cut.Post
+check-long-cut-holds-again-requires t c κs =
+    let told = c .before in
+    let first = told .before .before in
+    let far = first .before in
+    let near = far .before in
+    let halved = near .before .before in
+    let start = halved .before .before in
+    second-asks (start .pre) (halved .even-half .ensures) (start .args .by-square) (near .long-part .result) (far .long-part2 .result)
+    (near .long-part .ensures) (far .long-part2 .ensures) (start .args .so-far) (first .check-block .ensures)
+    (told .comparable .ensures) (c .if1 .taken)
+
+check-long-cut-returns : (t : ℕ) → check-long-cut-lts.Need-returns (check-long-cut-calls t) (check-long-cut-at t) check-long-cut.Post
+check-long-cut-returns t c =
+    let held = c .before in
+    let asked = held .before in
+    let told = asked .before in
+    let first = told .before .before in
+    let far = first .before in
+    let near = far .before in
+    let halved = near .before .before in
+    let start = halved .before .before in
+    long-steps (start .pre) (halved .even-half .ensures) (least-one (start .args .by-square) (start .args .table .now)) (start .args .so-far)
+    (near .long-part .ensures) (far .long-part2 .ensures) (first .check-block .ensures)
+    (second-stands (start .pre) (halved .even-half .ensures) (start .args .by-square) (near .long-part .result) (far .long-part2 .result)
+    (near .long-part .ensures) (far .long-part2 .ensures) (start .args .so-far) (first .check-block .ensures)
+    (told .comparable .ensures) (asked .if1 .taken) (held .holds-again .ensures .0 (c .if2 .taken)))
 
 check-long-cut-check-block-requires-2 :
     (t : ℕ) → check-long-cut-lts.Need-check-block-requires-2 (check-long-cut-calls t) (check-long-cut-at t) check-long-cut.Post
 check-long-cut-check-block-requires-2 t c κs =
-    let halved = c .before .before .before .before in
-    second-call (halved .before .before .pre) (halved .even-half .ensures) refl (c .long-part2 .result) (c .long-part2 .ensures)
+    let first = c .before .before .before in
+    let far = first .before in
+    let near = far .before in
+    let halved = near .before .before in
+    let start = halved .before .before in
+    second-call (start .pre) (halved .even-half .ensures) refl (far .long-part2 .result) (far .long-part2 .ensures)
 
-check-long-cut-returns : (t : ℕ) → check-long-cut-lts.Need-returns (check-long-cut-calls t) (check-long-cut-at t) check-long-cut.Post
-check-long-cut-returns t c =
-    let first = c .before .before in
-    let part = first .before in
-    let halved = part .before .before in
+check-long-cut-returns-2 : (t : ℕ) → check-long-cut-lts.Need-returns-2 (check-long-cut-calls t) (check-long-cut-at t) check-long-cut.Post
+check-long-cut-returns-2 t c =
+    let first = c .before .before .before .before in
+    let far = first .before in
+    let near = far .before in
+    let halved = near .before .before in
     let start = halved .before .before in
     long-steps (start .pre) (halved .even-half .ensures) (least-one (start .args .by-square) (start .args .table .now)) (start .args .so-far)
-    (part .long-part .ensures) (c .before .long-part2 .ensures) (first .check-block .ensures) (c .check-block2 .ensures)
+    (near .long-part .ensures) (far .long-part2 .ensures) (first .check-block .ensures) (c .check-block2 .ensures)
 
 check-u-cut-even-half-requires : (t : ℕ) → check-u-cut-lts.Need-even-half-requires (check-u-cut-calls t) (check-u-cut-at t) check-u-cut.Post
 check-u-cut-even-half-requires t c κs = tt
@@ -239,42 +325,84 @@ check-u-cut-add-to-c t c = record { fits = u-numbers (c .before .before .before 
 check-u-cut-part-a-requires : (t : ℕ) → check-u-cut-lts.Need-part-a-requires (check-u-cut-calls t) (check-u-cut-at t) check-u-cut.Post
 check-u-cut-part-a-requires t c κs = part-asks (c .before .before .before .before .before .pre)
 
+check-u-cut-part-c-requires : (t : ℕ) → check-u-cut-lts.Need-part-c-requires (check-u-cut-calls t) (check-u-cut-at t) check-u-cut.Post
+check-u-cut-part-c-requires t c κs = part-asks (c .before .before .before .before .before .before .pre)
+
 check-u-cut-check-block-requires : (t : ℕ) → check-u-cut-lts.Need-check-block-requires (check-u-cut-calls t) (check-u-cut-at t) check-u-cut.Post
 check-u-cut-check-block-requires t c κs =
-    let halved = c .before .before .before .before in
-    a-call (halved .before .before .pre) (halved .even-half .ensures) (c .part-a .result) (c .part-a .ensures)
+    let up = c .before in
+    let halved = up .before .before .before .before in
+    a-call (halved .before .before .pre) (halved .even-half .ensures) (up .part-a .result) (up .part-a .ensures)
 
 check-u-cut-part-b-requires : (t : ℕ) → check-u-cut-lts.Need-part-b-requires (check-u-cut-calls t) (check-u-cut-at t) check-u-cut.Post
 check-u-cut-part-b-requires t c κs =
-    let halved = c .before .before .before .before .before in
+    let up = c .before .before in
+    let halved = up .before .before .before .before in
     part-asks (halved .before .before .pre)
 
 check-u-cut-check-block-requires-2 : (t : ℕ) → check-u-cut-lts.Need-check-block-requires-2 (check-u-cut-calls t) (check-u-cut-at t) check-u-cut.Post
 check-u-cut-check-block-requires-2 t c κs =
-    let halved = c .before .before .before .before .before .before in
+    let up = c .before .before .before in
+    let halved = up .before .before .before .before in
     b-call (halved .before .before .pre) (halved .even-half .ensures) refl (c .part-b .result) (c .part-b .ensures)
 
-check-u-cut-part-c-requires : (t : ℕ) → check-u-cut-lts.Need-part-c-requires (check-u-cut-calls t) (check-u-cut-at t) check-u-cut.Post
-check-u-cut-part-c-requires t c κs =
-    let part-a = c .before .before .before in
-    part-asks (part-a .before .before .before .before .before .before .pre)
+check-u-cut-comparable-requires : (t : ℕ) → check-u-cut-lts.Need-comparable-requires (check-u-cut-calls t) (check-u-cut-at t) check-u-cut.Post
+check-u-cut-comparable-requires t c κs = tt
 
-check-u-cut-check-block-requires-3 : (t : ℕ) → check-u-cut-lts.Need-check-block-requires-3 (check-u-cut-calls t) (check-u-cut-at t) check-u-cut.Post
-check-u-cut-check-block-requires-3 t c κs =
-    let part-a = c .before .before .before .before in
-    let halved = part-a .before .before .before .before in
-    c-call (halved .before .before .pre) (halved .even-half .ensures) refl (c .part-c .result) (c .part-c .ensures)
+check-u-cut-holds-again-requires : (t : ℕ) → check-u-cut-lts.Need-holds-again-requires (check-u-cut-calls t) (check-u-cut-at t) check-u-cut.Post
+check-u-cut-holds-again-requires t c κs =
+    let told = c .before in
+    let second = told .before .before in
+    let along = second .before in
+    let first = along .before in
+    let down = first .before in
+    let up = down .before in
+    let halved = up .before .before .before .before in
+    let start = halved .before .before in
+    c-asks (start .pre) (halved .even-half .ensures) (start .args .by-square) (up .part-a .result) (along .part-b .result) (down .part-c .result)
+    (up .part-a .ensures) (down .part-c .ensures) (start .args .so-far) (first .check-block .ensures) (second .check-block2 .ensures)
+    (told .comparable .ensures) (c .if1 .taken)
 
 check-u-cut-returns : (t : ℕ) → check-u-cut-lts.Need-returns (check-u-cut-calls t) (check-u-cut-at t) check-u-cut.Post
 check-u-cut-returns t c =
-    let second = c .before .before in
-    let part-b = second .before in
-    let first = part-b .before in
-    let part-a = first .before in
-    let halved = part-a .before .before .before .before in
+    let held = c .before in
+    let asked = held .before in
+    let told = asked .before in
+    let second = told .before .before in
+    let along = second .before in
+    let first = along .before in
+    let down = first .before in
+    let up = down .before in
+    let halved = up .before .before .before .before in
     let start = halved .before .before in
     u-steps (start .pre) (halved .even-half .ensures) (least-one (start .args .by-square) (start .args .table .now)) (start .args .so-far)
-    (part-a .part-a .ensures) (part-b .part-b .ensures) (c .before .part-c .ensures) (first .check-block .ensures) (second .check-block2 .ensures)
+    (up .part-a .ensures) (along .part-b .ensures) (down .part-c .ensures) (first .check-block .ensures) (second .check-block2 .ensures)
+    (c-stands (start .pre) (halved .even-half .ensures) (start .args .by-square) (up .part-a .result) (along .part-b .result) (down .part-c .result)
+    (up .part-a .ensures) (down .part-c .ensures) (start .args .so-far) (first .check-block .ensures) (second .check-block2 .ensures)
+    (told .comparable .ensures) (asked .if1 .taken) (held .holds-again .ensures .0 (c .if2 .taken)))
+
+check-u-cut-check-block-requires-3 : (t : ℕ) → check-u-cut-lts.Need-check-block-requires-3 (check-u-cut-calls t) (check-u-cut-at t) check-u-cut.Post
+check-u-cut-check-block-requires-3 t c κs =
+    let second = c .before .before .before in
+    let along = second .before in
+    let first = along .before in
+    let down = first .before in
+    let up = down .before in
+    let halved = up .before .before .before .before in
+    let start = halved .before .before in
+    c-call (start .pre) (halved .even-half .ensures) refl (down .part-c .result) (down .part-c .ensures)
+
+check-u-cut-returns-2 : (t : ℕ) → check-u-cut-lts.Need-returns-2 (check-u-cut-calls t) (check-u-cut-at t) check-u-cut.Post
+check-u-cut-returns-2 t c =
+    let second = c .before .before .before .before in
+    let along = second .before in
+    let first = along .before in
+    let down = first .before in
+    let up = down .before in
+    let halved = up .before .before .before .before in
+    let start = halved .before .before in
+    u-steps (start .pre) (halved .even-half .ensures) (least-one (start .args .by-square) (start .args .table .now)) (start .args .so-far)
+    (up .part-a .ensures) (along .part-b .ensures) (down .part-c .ensures) (first .check-block .ensures) (second .check-block2 .ensures)
     (c .check-block3 .ensures)
 
 pub +check-block+check-choice+check-long-cut+check-u-cut-spec : {M : Type 1} → statement M
@@ -282,8 +410,10 @@ pub +check-block+check-choice+check-long-cut+check-u-cut-spec : {M : Type 1} →
     close μ-check-block μ-check-choice μ-check-long-cut μ-check-u-cut (λ t. check-block-lts.spec (check-block-calls t)
     (check-block-at t)
     check-block.Post
+    (check-block-pack-wrong-requires t)
+    (check-block-returns t)
     (check-block-check-choice-requires t)
-    (check-block-returns t))
+    (check-block-returns-2 t))
     (λ t. check-choice-lts.spec (check-choice-calls t)
     (check-choice-at t)
     check-choice.Post
@@ -310,10 +440,14 @@ pub +check-block+check-choice+check-long-cut+check-u-cut-spec : {M : Type 1} →
     (check-long-cut-mul-to-second t)
     (check-long-cut-add-to-second t)
     (check-long-cut-long-part-requires t)
-    (check-long-cut-check-block-requires t)
     (check-long-cut-long-part-requires-2 t)
+    (check-long-cut-check-block-requires t)
+    (check-long-cut-sub-comparable t)
+    (check-long-cut-comparable-requires t)
+    (check-long-cut-holds-again-requires t)
+    (check-long-cut-returns t)
     (check-long-cut-check-block-requires-2 t)
-    (check-long-cut-returns t))
+    (check-long-cut-returns-2 t))
     λ t. check-u-cut-lts.spec (check-u-cut-calls t)
     (check-u-cut-at t)
     check-u-cut.Post
@@ -324,9 +458,12 @@ pub +check-block+check-choice+check-long-cut+check-u-cut-spec : {M : Type 1} →
     (check-u-cut-mul-to-c t)
     (check-u-cut-add-to-c t)
     (check-u-cut-part-a-requires t)
+    (check-u-cut-part-c-requires t)
     (check-u-cut-check-block-requires t)
     (check-u-cut-part-b-requires t)
     (check-u-cut-check-block-requires-2 t)
-    (check-u-cut-part-c-requires t)
-    (check-u-cut-check-block-requires-3 t)
+    (check-u-cut-comparable-requires t)
+    (check-u-cut-holds-again-requires t)
     (check-u-cut-returns t)
+    (check-u-cut-check-block-requires-3 t)
+    (check-u-cut-returns-2 t)
