@@ -97,6 +97,17 @@ pub same-squares : {w h : ℕ} {t : List ℕ} {j : Block} {from : ℕ} {k : Bloc
     → k .a * k .b ≡ j .a * j .b
 same-squares again = ap₂ _*_ (again .same-a) (again .same-b)
 
+-- their number fits, and both have their places in the table, the one before the other
+pub both-fit : {w h : ℕ} {t : List ℕ} {j : Block} {from : ℕ} {k : Block} {to : ℕ} {opposite : Bool} → Again w h t j from k to opposite
+    → (k .a * k .b < past-32-bits) × (from + k .a * k .b ≤ to) × (to + k .a * k .b ≤ length t)
+both-fit again =
+    let room = again .fits .room in
+    let size = again .fits .size in
+    let all = squares-fit (again .fits) in
+    let before = again .before in
+    let same = same-squares again in
+    (omega arith, omega arith, omega arith)
+
 module _ {w h : ℕ} {t : List ℕ} {j : Block} {from : ℕ} {k : Block} {to : ℕ} {opposite : Bool} (again : Again w h t j from k to opposite)
     (c : ℕ) (starts : place w (k .start) ≡ image opposite c (place w (j .start))) where
   j-within : (s : Square) → Within (k .a) (k .b) s → Within (j .a) (j .b) s
@@ -172,9 +183,7 @@ module _ {w h : ℕ} {t : List ℕ} {j : Block} {from : ℕ} {k : Block} {to : �
   -- places that agree are the other block's
   pub agree-held : Agree opposite c t from to (k .a * k .b) → Held w t k to
   agree-held agree =
-      let room = again .fits .room in
-      let size = again .fits .size in
-      places-held w t k to (again .fits .inside .sized) (omega arith) (λ i l. agree i l ∙ j-entry i l)
+      places-held w t k to (again .fits .inside .sized) (both-fit again .2) (λ i l. agree i l ∙ j-entry i l)
 
   pub held-agree : Held w t k to → Agree opposite c t from to (k .a * k .b)
   held-agree held i l = held-places w t k to held i l ∙ sym (j-entry i l)

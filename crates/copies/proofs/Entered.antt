@@ -30,7 +30,8 @@ before-kept t n ps i l =
     sym (getD-take n (over (enter-one false) t n ps) i 0 l) ∙ ap (λ zs. getD zs i 0) (over-front n t n ps (omega arith)) ∙ getD-take n t i 0 l
 
 -- the places themselves
-numbers-entered : (t : List ℕ) (n : ℕ) (ps : List ℕ) → n + length ps ≤ length t → over (enter-one false) t n ps ≡ take n t ++ (ps ++ drop (n + length ps) t)
+pub numbers-entered : (t : List ℕ) (n : ℕ) (ps : List ℕ) → n + length ps ≤ length t
+    → over (enter-one false) t n ps ≡ take n t ++ (ps ++ drop (n + length ps) t)
 unfolding over
 numbers-entered t n [] l = sym (ap (λ m. take n t ++ drop m t) (add-zero n) ∙ take-append-drop n t)
 numbers-entered t n (p ∷ ps) l =

@@ -1,7 +1,7 @@
--- The two kinds of table as lists, place by place: what is entered for a whole area is what the lookups' definitions say. By number each entry
--- lengthens the list of what is right; by square each place has exactly one number.
+-- The two kinds of table as lists, place by place: what is entered for a whole area is what the lookups' definitions say. By number the
+-- places stand as they are entered; by square each place has exactly one number.
 use mathlib.Core.Bool.{Bool, true, false, cond}
-use mathlib.Core.List.{List, [], _∷_, _++_, map, append-assoc, append-nil}
+use mathlib.Core.List.{List, [], _∷_, _++_, map, append-nil}
 use mathlib.Core.Logic.{⊎-elim}
 use mathlib.Core.Path.{_≡_, refl, sym, ap, subst, subst⁻¹, _∙_}
 use Prim.Native.Nat.{ℕ, zero, suc, _+_, _*_, _/_, _%_, _≤_, _<_}
@@ -9,8 +9,8 @@ use native.Mathlib.Nat.{add-zero, zero-add, suc-add, add-suc, le-of-suc-le-suc, 
 use native.Mathlib.Nat.{mul-add-mod-self-right, mod-eq-of-lt, mul-add-div-right, div-eq-of-lt}
 use native.Mathlib.Numerals.{add-one}
 use native.Mathlib.Omega.{arith}
-use lib.ListN.{length, getD, take, set, length-append, length-map, length-set, List·getD-append}
-use lib.Seq.{take-all, take-suc-set, getD-append-seam, getD-set-same, getD-set-other, ext-getD}
+use lib.ListN.{length, getD, set, length-append, length-map, length-set, List·getD-append, drop-of-length-le}
+use lib.Seq.{getD-append-seam, getD-set-same, getD-set-other, ext-getD}
 use Rattle.division.specs.Division.{Square, square, whole, curve, square-of, number-of}
 use Rattle.division.proofs.Once.{length-curve, square-held, square-of-number, number-of-square, number-below}
 use Rattle.division.proofs.Blocks.{whole-inside}
@@ -18,6 +18,7 @@ use Rattle.division.proofs.Local.{Within, whole-holds, whole-within, getD-map-i
 use Rattle.tables.specs.Tables.{places, by-number, by-square, due-by}
 use Rattle.leaves.specs.Walk.{place, over, enter-one, filled-with}
 use Rattle.leaves.proofs.Entries.{enter-length, place-below}
+use Rattle.copies.proofs.Entered.{numbers-entered}
 
 places-length : (f : ℕ → ℕ) (n : ℕ) → length (places f n) ≡ n
 unfolding places
@@ -32,15 +33,6 @@ place-holds f (suc n) i l =
     (λ e. ap (λ j. getD (places f n ++ (f n ∷ [])) j 0) (e ∙ sym (places-length f n)) ∙ getD-append-seam (places f n) (f n) [] 0 ∙ ap f (sym e))
     (λ m. List·getD-append (places f n) (f n ∷ []) 0 i (subst⁻¹ (λ (k : ℕ). i < k) (places-length f n) m) ∙ place-holds f n i m)
     (eq-or-lt-of-le (le-of-suc-le-suc l))
-
--- by number: the places themselves, from the first number on
-numbers-entered : (t : List ℕ) (n : ℕ) (ps : List ℕ) → n + length ps ≡ length t → over (enter-one false) t n ps ≡ take n t ++ ps
-unfolding over
-numbers-entered t n [] e = sym (append-nil (take n t) ∙ take-all n t (omega arith))
-numbers-entered t n (p ∷ ps) e =
-    numbers-entered (set t n p) (suc n) ps (suc-add n (length ps) ∙ sym (add-suc n (length ps)) ∙ e ∙ sym (length-set t n p))
-    ∙ ap (λ zs. zs ++ ps) (take-suc-set t n p (omega arith))
-    ∙ append-assoc (take n t) (p ∷ []) ps
 
 -- by square: a place that is not among those entered keeps its value, and one that is gets its number
 kept-place : (t : List ℕ) (n : ℕ) (ps : List ℕ) (p : ℕ) → ((j : ℕ) → j < length ps → getD ps j 0 ≡ p → ⊥) → getD (over (enter-one true) t n ps) p 0 ≡ getD t p 0
@@ -153,7 +145,10 @@ module _ (w h : ℕ) (a : 1 ≤ w) (b : 1 ≤ h) where
     number-table : filled-with false w t (whole w h) 0 ≡ by-number w h
     unfolding by-number
     number-table =
-        numbers-entered t 0 (ps w h) (zero-add (length (ps w h)) ∙ ps-length ∙ sym size)
+        let long = ps-length in
+        numbers-entered t 0 (ps w h) (omega arith)
+        ∙ ap (λ zs. ps w h ++ zs) (drop-of-length-le t {i = 0 + length (ps w h)} (omega arith))
+        ∙ append-nil (ps w h)
         ∙ ext-getD 0 (ps w h) (by-number w h) (ps-length ∙ sym (places-length (λ i. square-of (whole w h) i .y * w + square-of (whole w h) i .x) (w * h)))
         (λ i l. let below : i < w * h = subst (λ (n : ℕ). i < n) ps-length l in
         ps-at i below ∙ sym (place-holds (λ i. square-of (whole w h) i .y * w + square-of (whole w h) i .x) (w * h) i below))

@@ -247,11 +247,8 @@ check-long-cut-check-block-requires t c κs =
 check-long-cut-sub-comparable : (t : ℕ) → check-long-cut-lts.Need-sub-comparable (check-long-cut-calls t) (check-long-cut-at t) check-long-cut.Post
 check-long-cut-sub-comparable t c =
     let first = c .before in
-    let far = first .before in
-    let near = far .before in
-    let halved = near .before .before in
-    let start = halved .before .before in
-    first-fits (start .pre) (halved .even-half .ensures)
+    let halved = first .before .before .before .before in
+    first-fits (halved .before .before .pre) (halved .even-half .ensures)
 
 check-long-cut-comparable-requires : (t : ℕ) → check-long-cut-lts.Need-comparable-requires (check-long-cut-calls t) (check-long-cut-at t) check-long-cut.Post
 check-long-cut-comparable-requires t c κs = tt

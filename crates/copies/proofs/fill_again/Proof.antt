@@ -1,25 +1,17 @@
 -- `copies::fill_again` meets its contract: the images of the one block's places are the other's, by the law of blocks that lie alike.
 use borrow.Author.Needs.{needs}
 use mathlib.Core.Path.{_∙_}
-use native.Mathlib.Omega.{arith}
-use Rattle.leaves.proofs.Entries.{squares-fit}
-use Rattle.copies.proofs.Alike.{same-squares, copied-filled}
+use Rattle.copies.proofs.Alike.{both-fit, copied-filled}
 use Rattle.copies.proofs.fill_again.Statement.{statement}
 use Rattle.copies.proofs.fill_again.Tie as tie
 
 mul-n : tie.Need-mul-n
-mul-n c =
-    let again = c .before .before .before .pre in
-    record { fits = let room = again .fits .room in let all = squares-fit (again .fits) in omega arith }
+mul-n c = record { fits = both-fit (c .before .before .before .pre) .0 }
 
 copy-requires : tie.Need-copy-requires
 copy-requires c κs =
     let again = c .before .before .before .before .pre in
-    let room = again .fits .room in
-    let size = again .fits .size in
-    let before = again .before in
-    let same = same-squares again in
-    (omega arith, omega arith)
+    (both-fit again .1, both-fit again .2)
 
 returns : tie.Need-returns
 returns c =

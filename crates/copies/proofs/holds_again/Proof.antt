@@ -1,24 +1,16 @@
 -- `copies::holds_again` meets its contract: where the one block stands, the other does if and only if its places are the images of the one's.
 use borrow.Author.Needs.{needs}
-use native.Mathlib.Omega.{arith}
-use Rattle.leaves.proofs.Entries.{squares-fit}
-use Rattle.copies.proofs.Alike.{same-squares, agree-held, held-agree}
+use Rattle.copies.proofs.Alike.{both-fit, agree-held, held-agree}
 use Rattle.copies.proofs.holds_again.Statement.{statement}
 use Rattle.copies.proofs.holds_again.Tie as tie
 
 mul-n : tie.Need-mul-n
-mul-n c =
-    let again = c .before .before .before .pre in
-    record { fits = let room = again .fits .room in let all = squares-fit (again .fits) in omega arith }
+mul-n c = record { fits = both-fit (c .before .before .before .pre) .0 }
 
 agree-requires : tie.Need-agree-requires
 agree-requires c κs =
     let again = c .before .before .before .pre in
-    let room = again .fits .room in
-    let size = again .fits .size in
-    let before = again .before in
-    let same = same-squares again in
-    (omega arith, omega arith)
+    (both-fit again .1, both-fit again .2)
 
 returns : tie.Need-returns
 returns c =

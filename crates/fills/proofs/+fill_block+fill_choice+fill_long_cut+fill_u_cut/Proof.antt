@@ -252,11 +252,8 @@ fill-long-cut-fill-block-requires t c κs =
 fill-long-cut-sub-if2 : (t : ℕ) → fill-long-cut-lts.Need-sub-if2 (fill-long-cut-calls t) (fill-long-cut-at t) fill-long-cut.Post
 fill-long-cut-sub-if2 t c =
     let first = c .before .before .before .before in
-    let far = first .before .before in
-    let near = far .before in
-    let halved = near .before .before in
-    let start = halved .before .before in
-    first-fits (start .pre) (halved .even-half .ensures)
+    let halved = first .before .before .before .before .before in
+    first-fits (halved .before .before .pre) (halved .even-half .ensures)
 
 fill-long-cut-fill-again-requires : (t : ℕ) → fill-long-cut-lts.Need-fill-again-requires (fill-long-cut-calls t) (fill-long-cut-at t) fill-long-cut.Post
 fill-long-cut-fill-again-requires t c κs =
@@ -300,11 +297,8 @@ fill-long-cut-add-result-2 t c =
     let copied = c .before .before in
     let kind = copied .before .before .before .before in
     let first = kind .before .before .before in
-    let far = first .before .before in
-    let near = far .before in
-    let halved = near .before .before in
-    let start = halved .before .before in
-    record { fits = let count = fill-long-cut-returns t c .1 in let most = few (start .pre .1 .0) in omega arith }
+    let halved = first .before .before .before .before .before in
+    record { fits = let count = fill-long-cut-returns t c .1 in let most = few (halved .before .before .pre .1 .0) in omega arith }
 
 fill-long-cut-add-result : (t : ℕ) → fill-long-cut-lts.Need-add-result (fill-long-cut-calls t) (fill-long-cut-at t) fill-long-cut.Post
 fill-long-cut-add-result t c = record { fits = let all = fill-long-cut-add-result-2 t c .fits in omega arith }
@@ -342,11 +336,8 @@ fill-long-cut-add-result-4 : (t : ℕ) → fill-long-cut-lts.Need-add-result-4 (
 fill-long-cut-add-result-4 t c =
     let second = c .before .before in
     let first = second .before .before .before .before .before in
-    let far = first .before .before in
-    let near = far .before in
-    let halved = near .before .before in
-    let start = halved .before .before in
-    record { fits = let count = fill-long-cut-returns-2 t c .1 in let most = few (start .pre .1 .0) in omega arith }
+    let halved = first .before .before .before .before .before in
+    record { fits = let count = fill-long-cut-returns-2 t c .1 in let most = few (halved .before .before .pre .1 .0) in omega arith }
 
 fill-long-cut-add-result-3 : (t : ℕ) → fill-long-cut-lts.Need-add-result-3 (fill-long-cut-calls t) (fill-long-cut-at t) fill-long-cut.Post
 fill-long-cut-add-result-3 t c = record { fits = let all = fill-long-cut-add-result-4 t c .fits in omega arith }
@@ -384,20 +375,16 @@ fill-u-cut-fill-block-requires t c κs =
 fill-u-cut-part-b-requires : (t : ℕ) → fill-u-cut-lts.Need-part-b-requires (fill-u-cut-calls t) (fill-u-cut-at t) fill-u-cut.Post
 fill-u-cut-part-b-requires t c κs =
     let first = c .before .before .before in
-    let down = first .before .before in
-    let up = down .before in
+    let up = first .before .before .before in
     let halved = up .before .before .before .before in
-    let start = halved .before .before in
-    part-asks (start .pre)
+    part-asks (halved .before .before .pre)
 
 fill-u-cut-fill-block-requires-2 : (t : ℕ) → fill-u-cut-lts.Need-fill-block-requires-2 (fill-u-cut-calls t) (fill-u-cut-at t) fill-u-cut.Post
 fill-u-cut-fill-block-requires-2 t c κs =
     let first = c .before .before .before .before in
-    let down = first .before .before in
-    let up = down .before in
+    let up = first .before .before .before in
     let halved = up .before .before .before .before in
-    let start = halved .before .before in
-    b-call (start .pre) (halved .even-half .ensures) (first .fill-block .kept .0) (c .part-b .result) (c .part-b .ensures)
+    b-call (halved .before .before .pre) (halved .even-half .ensures) (first .fill-block .kept .0) (c .part-b .result) (c .part-b .ensures)
 
 fill-u-cut-fill-again-requires : (t : ℕ) → fill-u-cut-lts.Need-fill-again-requires (fill-u-cut-calls t) (fill-u-cut-at t) fill-u-cut.Post
 fill-u-cut-fill-again-requires t c κs =
@@ -448,13 +435,10 @@ fill-u-cut-add-result-3 t c =
     let copied = c .before .before in
     let kind = copied .before .before .before .before in
     let second = kind .before .before .before in
-    let along = second .before in
-    let first = along .before .before .before .before in
-    let down = first .before .before in
-    let up = down .before in
+    let first = second .before .before .before .before .before in
+    let up = first .before .before .before in
     let halved = up .before .before .before .before in
-    let start = halved .before .before in
-    record { fits = let count = fill-u-cut-returns t c .1 in let most = few (start .pre .1 .0) in omega arith }
+    record { fits = let count = fill-u-cut-returns t c .1 in let most = few (halved .before .before .pre .1 .0) in omega arith }
 
 fill-u-cut-add-result-2 : (t : ℕ) → fill-u-cut-lts.Need-add-result-2 (fill-u-cut-calls t) (fill-u-cut-at t) fill-u-cut.Post
 fill-u-cut-add-result-2 t c = record { fits = let all = fill-u-cut-add-result-3 t c .fits in omega arith }
@@ -501,13 +485,10 @@ fill-u-cut-add-result-6 : (t : ℕ) → fill-u-cut-lts.Need-add-result-6 (fill-u
 fill-u-cut-add-result-6 t c =
     let third = c .before .before in
     let second = third .before .before .before .before .before in
-    let along = second .before in
-    let first = along .before .before .before .before in
-    let down = first .before .before in
-    let up = down .before in
+    let first = second .before .before .before .before .before in
+    let up = first .before .before .before in
     let halved = up .before .before .before .before in
-    let start = halved .before .before in
-    record { fits = let count = fill-u-cut-returns-2 t c .1 in let most = few (start .pre .1 .0) in omega arith }
+    record { fits = let count = fill-u-cut-returns-2 t c .1 in let most = few (halved .before .before .pre .1 .0) in omega arith }
 
 fill-u-cut-add-result-5 : (t : ℕ) → fill-u-cut-lts.Need-add-result-5 (fill-u-cut-calls t) (fill-u-cut-at t) fill-u-cut.Post
 fill-u-cut-add-result-5 t c = record { fits = let all = fill-u-cut-add-result-6 t c .fits in omega arith }
