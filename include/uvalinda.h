@@ -94,7 +94,7 @@ uint32_t uvalinda_fill_by_square(uint32_t w, uint32_t h, uint32_t *table, size_t
 
 /*
  * Checks a table of exactly w * h places against what the fill of the same kind would write. Values: 0, 0, 0 where it is right; else 1, the
- * first wrong place, and the value due there.
+ * first wrong place, and the value due there. A check by number ends at that place; one by square goes through the whole table.
  * Refusals, in this order: AREA_LIMIT, TABLE_LENGTH, TOO_DEEP.
  */
 uint32_t uvalinda_check_by_number(uint32_t w, uint32_t h, const uint32_t *table, size_t table_length, uint32_t *result, size_t result_length);
