@@ -1,14 +1,14 @@
 -- What is entered by number from a place on: the places before it stay, and what is entered stands there. So a block that is entered is held, and stays so
 -- under what is entered behind it.
-use mathlib.Core.Bool.{Bool, false, _&&_, and-eq-true-iff}
+use mathlib.Core.Bool.{Bool, true, false, cond, _&&_, and-eq-true-iff}
 use mathlib.Core.List.{List, [], _∷_, _++_, map, map-append, append-assoc}
-use mathlib.Core.Path.{_≡_, refl, sym, ap, ap₂, _∙_}
+use mathlib.Core.Path.{_≡_, refl, sym, ap, ap₂, subst⁻¹, _∙_}
 use Prim.Native.Nat.{ℕ, suc, _+_, _-_, _*_, _≤_, _<_}
 use native.Mathlib.Nat.{add-zero, add-suc, suc-add}
 use native.Mathlib.Numerals.{add-one}
 use native.Mathlib.Omega.{arith}
 use borrow.Author.Count.{below-more}
-use borrow.Author.Tests.{eqb-true, eq-eqb}
+use borrow.Author.Tests.{eqb-true, eqb-false, eq-eqb, ne-eqb}
 use lib.Dec.{eqb}
 use lib.ListN.{length, getD, take, drop, set, length-set, length-drop, length-map, take-append-drop}
 use lib.Seq.{length-take-le, take-suc, take-add, take-at, drop-at, take-set-le, drop-set-lt, take-suc-set, getD-take, getD-drop, ext-getD}
@@ -63,11 +63,29 @@ copied-more opposite c t from to i l room was is-v is-next =
     ∙ ap (λ n. set (copied opposite c t from to i) (to + n) (image opposite c x))
     (length-map (take i rest) (image opposite c) ∙ length-take-le i rest (omega arith)))
 
--- one place of a comparison more, as the code looks at it
-pub agree-more : (opposite : Bool) (c : ℕ) (t : List ℕ) (from to i : ℕ) {same : Bool} {v : ℕ} → v ≡ image opposite c (getD t (from + i) 0)
-    → Tells same (Agree opposite c t from to i) → Tells (same && eqb (getD t (to + i) 0) v) (Agree opposite c t from to (i + 1))
-agree-more opposite c t from to i {same} {v} is tells =
-    let both = and-eq-true-iff same (eqb (getD t (to + i) 0) v) in (
+-- one place of a comparison more, as the code counts it: all that were looked at agree if so many are counted
+counted : (same i : ℕ) (right known : Bool) → eqb same i ≡ known → same ≤ i → eqb (same + cond right 1 0) (i + 1) ≡ (eqb same i && right)
+counted same i true true e l = let all = eqb-true same i e in eq-eqb (same + 1) (i + 1) (omega arith) ∙ sym (rw e refl)
+counted same i true false e l = ne-eqb (same + 1) (i + 1) (λ z. eqb-false same i e (omega arith)) ∙ sym (rw e refl)
+counted same i false known e l = ne-eqb (same + 0) (i + 1) (λ z. omega arith) ∙ sym (nothing known e)
+  where
+    nothing : (known : Bool) → eqb same i ≡ known → (eqb same i && false) ≡ false
+    nothing true e = rw e refl
+    nothing false e = rw e refl
+
+pub at-most-one : (right : Bool) {more : ℕ} → more ≡ cond right 1 0 → more ≤ 1
+at-most-one true is = omega arith
+at-most-one false is = omega arith
+
+pub agree-more : (opposite : Bool) (c : ℕ) (t : List ℕ) (from to i same v more : ℕ) → v ≡ image opposite c (getD t (from + i) 0)
+    → more ≡ cond (eqb (getD t (to + i) 0) v) 1 0 → same ≤ i → Tells (eqb same i) (Agree opposite c t from to i)
+    → Tells (eqb (same + more) (i + 1)) (Agree opposite c t from to (i + 1))
+agree-more opposite c t from to i same v more is counts l tells =
+    let right = eqb (getD t (to + i) 0) v in
+    let both = and-eq-true-iff (eqb same i) right in
+    let told : eqb (same + more) (i + 1) ≡ (eqb same i && right) =
+    ap (λ m. eqb (same + m) (i + 1)) counts ∙ counted same i right (eqb same i) refl l in
+    subst⁻¹ (λ (r : Bool). Tells r (Agree opposite c t from to (i + 1))) told (
       λ e. below-more _ i (tells .0 (both .0 e .0)) (eqb-true (getD t (to + i) 0) v (both .0 e .1) ∙ is),
       λ agree. both .1 (tells .1 (λ j l. agree j (omega arith)), eq-eqb (getD t (to + i) 0) v (agree i (omega arith) ∙ sym is)),
     )

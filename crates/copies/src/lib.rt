@@ -31,16 +31,17 @@ fn copy(table: &mut [u32], from: usize, to: usize, n: usize, c: u32, opposite: b
     }
 }
 
-// Whether n places from `to` on are what a copy would enter. It looks at all of them: a loop that could end early would take them one by one.
-fn agree(table: &[u32], from: usize, to: usize, n: usize, c: u32, opposite: bool) -> bool
+// Whether n places from `to` on are what a copy would enter: those that are get counted, since a loop that could end early would take them one by one.
+fn agree(table: &[u32], from: usize, to: usize, n: u32, c: u32, opposite: bool) -> bool
     requires { ⌜ (from + n ≤ to) × (to + n ≤ length (now table)) ⌝ }
     ensures { λ r. ⌜ Tells r (Agree «opposite» c (now (table .entry)) from to n) ⌝ }
 {
-    let mut same = true;
-    for i in 0..n {
-        same = same & (table[to + i] == image_of(table[from + i], c, opposite));
+    let mut same: u32 = 0;
+    for i in 0..n as usize {
+        let right = table[to + i] == image_of(table[from + i], c, opposite);
+        same = same + division::either(right, 1, 0);
     }
-    same
+    same == n
 }
 
 // The constant between the places of two blocks, by those of their starts.
@@ -90,5 +91,5 @@ pub fn holds_again(
 {
     let c = between(j, k, area, opposite);
     let n = k.a * k.b;
-    agree(table, from as usize, to as usize, n as usize, c, opposite)
+    agree(table, from as usize, to as usize, n, c, opposite)
 }

@@ -22,4 +22,4 @@ returns c =
 
 pub holds-again-spec : {M : Type 1} → statement M
 holds-again-spec =
-    tie.close (tie.spec (λ c κs. search needs) mul-n (λ c. search needs) agree-requires returns)
+    tie.close (tie.spec (λ c κs. search needs) mul-n agree-requires returns)
