@@ -1,7 +1,7 @@
 -- A part that a fill by number copies from the part that it repeats: what the copy asks, and that it leaves what a walk over the part would.
 use mathlib.Core.Bool.{Bool, true, false, not}
 use mathlib.Core.List.{List, map}
-use mathlib.Core.Path.{_≡_, sym, ap, ap₂, subst⁻¹, _∙_}
+use mathlib.Core.Path.{_≡_, sym, ap, ap₂, subst, subst⁻¹, _∙_}
 use Prim.Native.Nat.{ℕ, _+_, _-_, _*_, _/_, _%_}
 use native.Mathlib.Omega.{arith}
 use borrow.Author.Tests.{not-true}
@@ -33,18 +33,19 @@ module _ (by-square : Bool) (by-number : not by-square ≡ true) where
       → e ≡ k .a - e → Again w h s (block p) at (block q) (at + e * k .b) false
   second-asks cut half p q is-p is-q first same equal = second-again cut half p q is-p is-q same (held-so (first-call cut half p is-p .1) first) equal
 
-  -- the U cut's C, behind A and B
+  -- the U cut's C, behind A and B; the code has A twice
   pub c-asks : {w h : ℕ} {t : List ℕ} {k : Block} {at m : ℕ} (cut : Cut UCut w h t k at m) {e : ℕ} → e ≡ even-half (k .b)
-      → (p q r : Placed) → block p ≡ part A k → block r ≡ part C k → {s s′ : List ℕ} → s ≡ filled-with by-square w t (block p) at
+      → (p q p′ r : Placed) → block p ≡ part A k → block p′ ≡ part A k → block r ≡ part C k → {s s′ : List ℕ} → s ≡ filled-with by-square w t (block p) at
       → s′ ≡ filled-with by-square w s (block q) (at + e * (k .a / 2)) → length s ≡ length t → length s′ ≡ length s → k .a % 2 ≡ 0
-      → Again w h s′ (block p) at (block r) (at + e * (k .a / 2) + k .a * (k .b - e)) true
+      → Again w h s′ (block p′) at (block r) (at + e * (k .a / 2) + k .a * (k .b - e)) true
   unfolding part
-  c-asks {w} {h} {t} {k} {at} cut {e} half p q r is-p is-r {s} first second same same′ even =
+  c-asks {w} {h} {t} {k} {at} cut {e} half p q p′ r is-p is-p′ is-r {s} {s′} first second same same′ even =
       let room = cut .1 .0 .room in
       let size = cut .1 .0 .size in
       let squares : p .a * p .b ≡ e * (k .a / 2) = ap₂ _*_ (ap (λ b. b .a) is-p ∙ sym half) (ap (λ b. b .b) is-p) in
-      c-again cut half p r is-p is-r (same′ ∙ same)
+      c-again cut half p′ r is-p′ is-r (same′ ∙ same)
+      (subst (λ (j : Block). Held w s′ j at) (is-p ∙ sym is-p′)
       (subst⁻¹ (λ (zs : List ℕ). Held w zs (block p) at) (second ∙ sym (of-kind w s (block q) (at + e * (k .a / 2))))
       (held-on w s (block p) at (at + e * (k .a / 2)) (map (place w) (curve (block q))) (omega arith) (omega arith)
-      (held-so (a-call cut half p is-p .1) first)))
+      (held-so (a-call cut half p is-p .1) first))))
       (omega arith)

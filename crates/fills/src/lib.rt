@@ -97,7 +97,8 @@ fn fill_long_cut(table: &mut [u32], k: Placed, area: Area, at: u32, by_square: b
     first + second + 1
 }
 
-// The three parts of a U cut. By number C repeats A, turned round, where the run is even: it is copied.
+// The three parts of a U cut. By number C repeats A, turned round, where the run is even: it is copied. A part is handed on in memory, so all three have one
+// place: a walk's stack is as deep as its blocks.
 fn fill_u_cut(table: &mut [u32], k: Placed, area: Area, at: u32, by_square: bool) -> u64
     requires { ⌜ Fits (area .w) (area .h) (now table) (block k) at × (choice (k .a) (k .b) ≡ UCut) ⌝ }
     ensures table { λ r. ⌜ now (table .exit) ≡ filled-with «by_square» (area .w) (now (table .entry)) (block k) at ⌝ }
@@ -106,16 +107,17 @@ fn fill_u_cut(table: &mut [u32], k: Placed, area: Area, at: u32, by_square: bool
     let e = division::even_half(k.b);
     let to_b = at + e * (k.a / 2);
     let to_c = to_b + k.a * (k.b - e);
-    let up = division::part_a(k);
-    let down = division::part_c(k);
-    let a = fill_block(table, up, area, at, by_square);
-    let b = fill_block(table, division::part_b(k), area, to_b, by_square);
+    let mut part = division::part_a(k);
+    let a = fill_block(table, part, area, at, by_square);
+    part = division::part_b(k);
+    let b = fill_block(table, part, area, to_b, by_square);
+    part = division::part_c(k);
     if !by_square {
         if k.a % 2 == 0 {
-            copies::fill_again(table, up, at, down, to_c, area, true);
+            copies::fill_again(table, division::part_a(k), at, part, to_c, area, true);
             return a + b + a + 1;
         }
     }
-    let c = fill_block(table, down, area, to_c, by_square);
+    let c = fill_block(table, part, area, to_c, by_square);
     a + b + c + 1
 }

@@ -1,8 +1,10 @@
 -- The four functions of a fill meet their contracts, by the laws of `Parts`, `Counts` and `Repeats`: the parts' entries in order, walked or copied, are the
 -- block's. The measure is three times the block's area, plus 0 for a cut, 1 for `fill_choice` and 2 for `fill_block`, which are three calls on one block.
-use mathlib.Core.Path.{sym, _∙_}
+use mathlib.Core.Path.{sym, ap, _∙_}
 use Prim.Native.Nat.{ℕ, _+_, _*_, _<_}
 use native.Mathlib.Omega.{arith}
+use lib.ListN.{length}
+use Rattle.division.specs.Division.{blocks}
 use Rattle.division.proofs.Walks.{a-limit, b-limit}
 use Rattle.leaves.specs.Walk.{enter-one}
 use Rattle.leaves.proofs.Entries.{largest}
@@ -117,12 +119,12 @@ fill-u-cut-calls t = (
   even-half-reads.Learnt,
   part-a-reads.Asked,
   part-a-reads.Learnt,
-  part-c-reads.Asked,
-  part-c-reads.Learnt,
   fill-block-below t,
   fill-block.Post,
   part-b-reads.Asked,
   part-b-reads.Learnt,
+  part-c-reads.Asked,
+  part-c-reads.Learnt,
   fill-again-reads.Asked,
   fill-again-reads.Learnt,
 )
@@ -238,39 +240,49 @@ fill-long-cut-add-to-second : (t : ℕ) → fill-long-cut-lts.Need-add-to-second
 fill-long-cut-add-to-second t c = record { fits = second-number (c .before .before .before .pre) (c .before .even-half .ensures) .1 }
 
 fill-long-cut-long-part-requires : (t : ℕ) → fill-long-cut-lts.Need-long-part-requires (fill-long-cut-calls t) (fill-long-cut-at t) fill-long-cut.Post
-fill-long-cut-long-part-requires t c κs = part-asks (c .before .before .before .pre)
-
-fill-long-cut-long-part-requires-2 : (t : ℕ) → fill-long-cut-lts.Need-long-part-requires-2 (fill-long-cut-calls t) (fill-long-cut-at t) fill-long-cut.Post
-fill-long-cut-long-part-requires-2 t c κs = part-asks (c .before .before .before .before .pre)
+fill-long-cut-long-part-requires t c κs =
+    let halved = c .before in
+    let start = halved .before .before in
+    part-asks (start .pre)
 
 fill-long-cut-fill-block-requires : (t : ℕ) → fill-long-cut-lts.Need-fill-block-requires (fill-long-cut-calls t) (fill-long-cut-at t) fill-long-cut.Post
 fill-long-cut-fill-block-requires t c κs =
     let near = c .before .before in
     let halved = near .before .before in
-    first-call (halved .before .before .pre) (halved .even-half .ensures) (near .long-part .result) (near .long-part .ensures)
+    let start = halved .before .before in
+    first-call (start .pre) (halved .even-half .ensures) (near .long-part .result) (near .long-part .ensures)
+
+fill-long-cut-long-part-requires-2 : (t : ℕ) → fill-long-cut-lts.Need-long-part-requires-2 (fill-long-cut-calls t) (fill-long-cut-at t) fill-long-cut.Post
+fill-long-cut-long-part-requires-2 t c κs =
+    let halved = c .before .before in
+    let start = halved .before .before in
+    part-asks (start .pre)
 
 fill-long-cut-sub-if2 : (t : ℕ) → fill-long-cut-lts.Need-sub-if2 (fill-long-cut-calls t) (fill-long-cut-at t) fill-long-cut.Post
 fill-long-cut-sub-if2 t c =
     let first = c .before .before .before .before in
     let halved = first .before .before .before .before .before in
-    first-fits (halved .before .before .pre) (halved .even-half .ensures)
+    let start = halved .before .before in
+    first-fits (start .pre) (halved .even-half .ensures)
 
 fill-long-cut-fill-again-requires : (t : ℕ) → fill-long-cut-lts.Need-fill-again-requires (fill-long-cut-calls t) (fill-long-cut-at t) fill-long-cut.Post
 fill-long-cut-fill-again-requires t c κs =
-    let kind = c .before .before .before in
+    let equal = c .before in
+    let kind = equal .before .before in
     let first = kind .before .before .before in
     let far = first .before .before in
     let near = far .before in
     let halved = near .before .before in
     let start = halved .before .before in
     second-asks (start .args .by-square) (kind .if1 .taken) (start .pre) (halved .even-half .ensures) (near .long-part .result) (far .long-part2 .result)
-    (near .long-part .ensures) (far .long-part2 .ensures) (first .fill-block .ensures .0) (first .fill-block .kept .0) (c .before .if2 .taken)
+    (near .long-part .ensures) (far .long-part2 .ensures) (first .fill-block .ensures .0) (first .fill-block .kept .0) (equal .if2 .taken)
 
 fill-long-cut-same-length : (t : ℕ) → fill-long-cut-lts.Need-same-length (fill-long-cut-calls t) (fill-long-cut-at t) fill-long-cut.Post
 fill-long-cut-same-length t c =
     let copied = c .before .before in
     let kind = copied .before .before .before .before in
-    copied .fill-again .kept .0 ∙ kind .before .before .before .fill-block .kept .0
+    let first = kind .before .before .before in
+    copied .fill-again .kept .0 ∙ first .fill-block .kept .0
 
 fill-long-cut-returns : (t : ℕ) → fill-long-cut-lts.Need-returns (fill-long-cut-calls t) (fill-long-cut-at t) fill-long-cut.Post
 fill-long-cut-returns t c =
@@ -298,7 +310,8 @@ fill-long-cut-add-result-2 t c =
     let kind = copied .before .before .before .before in
     let first = kind .before .before .before in
     let halved = first .before .before .before .before .before in
-    record { fits = let count = fill-long-cut-returns t c .1 in let most = few (halved .before .before .pre .1 .0) in omega arith }
+    let start = halved .before .before in
+    record { fits = let count = fill-long-cut-returns t c .1 in let most = few (start .pre .1 .0) in omega arith }
 
 fill-long-cut-add-result : (t : ℕ) → fill-long-cut-lts.Need-add-result (fill-long-cut-calls t) (fill-long-cut-at t) fill-long-cut.Post
 fill-long-cut-add-result t c = record { fits = let all = fill-long-cut-add-result-2 t c .fits in omega arith }
@@ -307,15 +320,15 @@ fill-long-cut-fill-block-requires-2 : (t : ℕ) → fill-long-cut-lts.Need-fill-
 fill-long-cut-fill-block-requires-2 t c κs =
     let first = c .before .before .before .before in
     let far = first .before .before in
-    let near = far .before in
-    let halved = near .before .before in
+    let halved = far .before .before .before in
     let start = halved .before .before in
     second-call (start .pre) (halved .even-half .ensures) (first .fill-block .kept .0) (far .long-part2 .result) (far .long-part2 .ensures)
 
 fill-long-cut-same-length-2 : (t : ℕ) → fill-long-cut-lts.Need-same-length-2 (fill-long-cut-calls t) (fill-long-cut-at t) fill-long-cut.Post
 fill-long-cut-same-length-2 t c =
     let second = c .before .before in
-    second .fill-block2 .kept .0 ∙ second .before .before .before .before .before .fill-block .kept .0
+    let first = second .before .before .before .before .before in
+    second .fill-block2 .kept .0 ∙ first .fill-block .kept .0
 
 fill-long-cut-returns-2 : (t : ℕ) → fill-long-cut-lts.Need-returns-2 (fill-long-cut-calls t) (fill-long-cut-at t) fill-long-cut.Post
 fill-long-cut-returns-2 t c =
@@ -324,12 +337,10 @@ fill-long-cut-returns-2 t c =
     let far = first .before .before in
     let near = far .before in
     let halved = near .before .before in
-    let start = halved .before .before in
-    let is-near = near .long-part .ensures in
-    let is-far = far .long-part2 .ensures in (
-      long-steps (start .pre) (halved .even-half .ensures) (enter-one (start .args .by-square)) (start .args .table .now) is-near is-far
-          (first .fill-block .ensures .0) (second .fill-block2 .ensures .0),
-      long-count (start .pre) is-near is-far (first .fill-block .ensures .1) (second .fill-block2 .ensures .1),
+    let start = halved .before .before in (
+      long-steps (start .pre) (halved .even-half .ensures) (enter-one (start .args .by-square)) (start .args .table .now) (near .long-part .ensures)
+          (far .long-part2 .ensures) (first .fill-block .ensures .0) (second .fill-block2 .ensures .0),
+      long-count (start .pre) (near .long-part .ensures) (far .long-part2 .ensures) (first .fill-block .ensures .1) (second .fill-block2 .ensures .1),
     )
 
 fill-long-cut-add-result-4 : (t : ℕ) → fill-long-cut-lts.Need-add-result-4 (fill-long-cut-calls t) (fill-long-cut-at t) fill-long-cut.Post
@@ -337,7 +348,8 @@ fill-long-cut-add-result-4 t c =
     let second = c .before .before in
     let first = second .before .before .before .before .before in
     let halved = first .before .before .before .before .before in
-    record { fits = let count = fill-long-cut-returns-2 t c .1 in let most = few (halved .before .before .pre .1 .0) in omega arith }
+    let start = halved .before .before in
+    record { fits = let count = fill-long-cut-returns-2 t c .1 in let most = few (start .pre .1 .0) in omega arith }
 
 fill-long-cut-add-result-3 : (t : ℕ) → fill-long-cut-lts.Need-add-result-3 (fill-long-cut-calls t) (fill-long-cut-at t) fill-long-cut.Post
 fill-long-cut-add-result-3 t c = record { fits = let all = fill-long-cut-add-result-4 t c .fits in omega arith }
@@ -363,63 +375,81 @@ fill-u-cut-add-to-c t c = record { fits = u-numbers (c .before .before .before .
 fill-u-cut-part-a-requires : (t : ℕ) → fill-u-cut-lts.Need-part-a-requires (fill-u-cut-calls t) (fill-u-cut-at t) fill-u-cut.Post
 fill-u-cut-part-a-requires t c κs = part-asks (c .before .before .before .before .before .pre)
 
-fill-u-cut-part-c-requires : (t : ℕ) → fill-u-cut-lts.Need-part-c-requires (fill-u-cut-calls t) (fill-u-cut-at t) fill-u-cut.Post
-fill-u-cut-part-c-requires t c κs = part-asks (c .before .before .before .before .before .before .pre)
-
 fill-u-cut-fill-block-requires : (t : ℕ) → fill-u-cut-lts.Need-fill-block-requires (fill-u-cut-calls t) (fill-u-cut-at t) fill-u-cut.Post
 fill-u-cut-fill-block-requires t c κs =
-    let up = c .before .before in
+    let up = c .before in
     let halved = up .before .before .before .before in
-    a-call (halved .before .before .pre) (halved .even-half .ensures) (up .part-a .result) (up .part-a .ensures)
+    let start = halved .before .before in
+    a-call (start .pre) (halved .even-half .ensures) (up .part-a .result) (up .part-a .ensures)
 
 fill-u-cut-part-b-requires : (t : ℕ) → fill-u-cut-lts.Need-part-b-requires (fill-u-cut-calls t) (fill-u-cut-at t) fill-u-cut.Post
 fill-u-cut-part-b-requires t c κs =
-    let first = c .before .before .before in
-    let up = first .before .before .before in
-    let halved = up .before .before .before .before in
-    part-asks (halved .before .before .pre)
+    let first = c .before .before in
+    let halved = first .before .before .before .before .before .before in
+    let start = halved .before .before in
+    part-asks (start .pre)
 
 fill-u-cut-fill-block-requires-2 : (t : ℕ) → fill-u-cut-lts.Need-fill-block-requires-2 (fill-u-cut-calls t) (fill-u-cut-at t) fill-u-cut.Post
 fill-u-cut-fill-block-requires-2 t c κs =
-    let first = c .before .before .before .before in
-    let up = first .before .before .before in
-    let halved = up .before .before .before .before in
-    b-call (halved .before .before .pre) (halved .even-half .ensures) (first .fill-block .kept .0) (c .part-b .result) (c .part-b .ensures)
+    let along = c .before in
+    let first = along .before .before .before in
+    let halved = first .before .before .before .before .before .before in
+    let start = halved .before .before in
+    b-call (start .pre) (halved .even-half .ensures) (first .fill-block .kept .0) (along .part-b .result) (along .part-b .ensures)
+
+fill-u-cut-part-c-requires : (t : ℕ) → fill-u-cut-lts.Need-part-c-requires (fill-u-cut-calls t) (fill-u-cut-at t) fill-u-cut.Post
+fill-u-cut-part-c-requires t c κs =
+    let second = c .before .before in
+    let first = second .before .before .before .before .before in
+    let halved = first .before .before .before .before .before .before in
+    let start = halved .before .before in
+    part-asks (start .pre)
+
+fill-u-cut-part-a-requires-2 : (t : ℕ) → fill-u-cut-lts.Need-part-a-requires-2 (fill-u-cut-calls t) (fill-u-cut-at t) fill-u-cut.Post
+fill-u-cut-part-a-requires-2 t c κs =
+    let kind = c .before .before .before in
+    let second = kind .before .before .before .before in
+    let first = second .before .before .before .before .before in
+    let halved = first .before .before .before .before .before .before in
+    let start = halved .before .before in
+    part-asks (start .pre)
 
 fill-u-cut-fill-again-requires : (t : ℕ) → fill-u-cut-lts.Need-fill-again-requires (fill-u-cut-calls t) (fill-u-cut-at t) fill-u-cut.Post
 fill-u-cut-fill-again-requires t c κs =
-    let kind = c .before .before .before in
-    let second = kind .before .before .before in
-    let along = second .before in
-    let first = along .before .before .before .before in
-    let down = first .before .before in
-    let up = down .before in
+    let even = c .before .before in
+    let kind = even .before .before in
+    let down = kind .before in
+    let second = down .before .before .before in
+    let along = second .before .before in
+    let first = along .before .before .before in
+    let up = first .before .before in
     let halved = up .before .before .before .before in
     let start = halved .before .before in
     c-asks (start .args .by-square) (kind .if1 .taken) (start .pre) (halved .even-half .ensures) (up .part-a .result) (along .part-b .result)
-    (down .part-c .result) (up .part-a .ensures) (down .part-c .ensures) (first .fill-block .ensures .0) (second .fill-block2 .ensures .0)
-    (first .fill-block .kept .0) (second .fill-block2 .kept .0) (c .before .if2 .taken)
+    (c .part-a2 .result) (down .part-c .result) (up .part-a .ensures) (c .part-a2 .ensures) (down .part-c .ensures) (first .fill-block .ensures .0)
+    (second .fill-block2 .ensures .0) (first .fill-block .kept .0) (second .fill-block2 .kept .0) (even .if2 .taken)
 
 fill-u-cut-same-length : (t : ℕ) → fill-u-cut-lts.Need-same-length (fill-u-cut-calls t) (fill-u-cut-at t) fill-u-cut.Post
 fill-u-cut-same-length t c =
     let copied = c .before .before in
-    let kind = copied .before .before .before .before in
-    let second = kind .before .before .before in
-    copied .fill-again .kept .0 ∙ second .fill-block2 .kept .0 ∙ second .before .before .before .before .before .fill-block .kept .0
+    let kind = copied .before .before .before .before .before in
+    let second = kind .before .before .before .before in
+    let first = second .before .before .before .before .before in
+    copied .fill-again .kept .0 ∙ second .fill-block2 .kept .0 ∙ first .fill-block .kept .0
 
 fill-u-cut-returns : (t : ℕ) → fill-u-cut-lts.Need-returns (fill-u-cut-calls t) (fill-u-cut-at t) fill-u-cut.Post
 fill-u-cut-returns t c =
     let copied = c .before .before in
-    let asked = copied .before in
-    let kind = asked .before .before .before in
-    let second = kind .before .before .before in
-    let along = second .before in
-    let first = along .before .before .before .before in
-    let down = first .before .before in
-    let up = down .before in
+    let again-up = copied .before in
+    let kind = again-up .before .before .before .before in
+    let down = kind .before in
+    let second = down .before .before .before in
+    let along = second .before .before in
+    let first = along .before .before .before in
+    let up = first .before .before in
     let halved = up .before .before .before .before in
     let start = halved .before .before in
-    let again = fill-u-cut-fill-again-requires t asked (copied .fill-again .lifetimes) in
+    let again = fill-u-cut-fill-again-requires t again-up (copied .fill-again .lifetimes) in
     let is-a = up .part-a .ensures in
     let is-b = along .part-b .ensures in
     let is-c = down .part-c .ensures in
@@ -427,18 +457,19 @@ fill-u-cut-returns t c =
       u-steps (start .pre) (halved .even-half .ensures) (enter-one (start .args .by-square)) (start .args .table .now) is-a is-b is-c
           (first .fill-block .ensures .0) (second .fill-block2 .ensures .0)
           (copied-so (start .args .by-square) (kind .if1 .taken) _ _ _ _ (copied .fill-again .ensures)),
-      u-count (start .pre) is-a is-b is-c count (second .fill-block2 .ensures .1) (count ∙ again-count again),
+      u-count (start .pre) is-a is-b is-c count (second .fill-block2 .ensures .1)
+          (count ∙ ap (λ b. length (blocks b)) (is-a ∙ sym (again-up .part-a2 .ensures)) ∙ again-count again),
     )
 
 fill-u-cut-add-result-3 : (t : ℕ) → fill-u-cut-lts.Need-add-result-3 (fill-u-cut-calls t) (fill-u-cut-at t) fill-u-cut.Post
 fill-u-cut-add-result-3 t c =
     let copied = c .before .before in
-    let kind = copied .before .before .before .before in
-    let second = kind .before .before .before in
+    let kind = copied .before .before .before .before .before in
+    let second = kind .before .before .before .before in
     let first = second .before .before .before .before .before in
-    let up = first .before .before .before in
-    let halved = up .before .before .before .before in
-    record { fits = let count = fill-u-cut-returns t c .1 in let most = few (halved .before .before .pre .1 .0) in omega arith }
+    let halved = first .before .before .before .before .before .before in
+    let start = halved .before .before in
+    record { fits = let count = fill-u-cut-returns t c .1 in let most = few (start .pre .1 .0) in omega arith }
 
 fill-u-cut-add-result-2 : (t : ℕ) → fill-u-cut-lts.Need-add-result-2 (fill-u-cut-calls t) (fill-u-cut-at t) fill-u-cut.Post
 fill-u-cut-add-result-2 t c = record { fits = let all = fill-u-cut-add-result-3 t c .fits in omega arith }
@@ -448,29 +479,28 @@ fill-u-cut-add-result t c = record { fits = let all = fill-u-cut-add-result-3 t 
 
 fill-u-cut-fill-block-requires-3 : (t : ℕ) → fill-u-cut-lts.Need-fill-block-requires-3 (fill-u-cut-calls t) (fill-u-cut-at t) fill-u-cut.Post
 fill-u-cut-fill-block-requires-3 t c κs =
-    let second = c .before .before .before .before in
-    let along = second .before in
-    let first = along .before .before .before .before in
-    let down = first .before .before in
-    let up = down .before in
-    let halved = up .before .before .before .before in
+    let down = c .before .before in
+    let second = down .before .before .before in
+    let first = second .before .before .before .before .before in
+    let halved = first .before .before .before .before .before .before in
     let start = halved .before .before in
     c-call (start .pre) (halved .even-half .ensures) (second .fill-block2 .kept .0 ∙ first .fill-block .kept .0) (down .part-c .result) (down .part-c .ensures)
 
 fill-u-cut-same-length-2 : (t : ℕ) → fill-u-cut-lts.Need-same-length-2 (fill-u-cut-calls t) (fill-u-cut-at t) fill-u-cut.Post
 fill-u-cut-same-length-2 t c =
     let third = c .before .before in
-    let second = third .before .before .before .before .before in
-    third .fill-block3 .kept .0 ∙ second .fill-block2 .kept .0 ∙ second .before .before .before .before .before .fill-block .kept .0
+    let second = third .before .before .before .before .before .before in
+    let first = second .before .before .before .before .before in
+    third .fill-block3 .kept .0 ∙ second .fill-block2 .kept .0 ∙ first .fill-block .kept .0
 
 fill-u-cut-returns-2 : (t : ℕ) → fill-u-cut-lts.Need-returns-2 (fill-u-cut-calls t) (fill-u-cut-at t) fill-u-cut.Post
 fill-u-cut-returns-2 t c =
     let third = c .before .before in
-    let second = third .before .before .before .before .before in
-    let along = second .before in
-    let first = along .before .before .before .before in
-    let down = first .before .before in
-    let up = down .before in
+    let down = third .before .before .before in
+    let second = down .before .before .before in
+    let along = second .before .before in
+    let first = along .before .before .before in
+    let up = first .before .before in
     let halved = up .before .before .before .before in
     let start = halved .before .before in
     let is-a = up .part-a .ensures in
@@ -484,11 +514,11 @@ fill-u-cut-returns-2 t c =
 fill-u-cut-add-result-6 : (t : ℕ) → fill-u-cut-lts.Need-add-result-6 (fill-u-cut-calls t) (fill-u-cut-at t) fill-u-cut.Post
 fill-u-cut-add-result-6 t c =
     let third = c .before .before in
-    let second = third .before .before .before .before .before in
+    let second = third .before .before .before .before .before .before in
     let first = second .before .before .before .before .before in
-    let up = first .before .before .before in
-    let halved = up .before .before .before .before in
-    record { fits = let count = fill-u-cut-returns-2 t c .1 in let most = few (halved .before .before .pre .1 .0) in omega arith }
+    let halved = first .before .before .before .before .before .before in
+    let start = halved .before .before in
+    record { fits = let count = fill-u-cut-returns-2 t c .1 in let most = few (start .pre .1 .0) in omega arith }
 
 fill-u-cut-add-result-5 : (t : ℕ) → fill-u-cut-lts.Need-add-result-5 (fill-u-cut-calls t) (fill-u-cut-at t) fill-u-cut.Post
 fill-u-cut-add-result-5 t c = record { fits = let all = fill-u-cut-add-result-6 t c .fits in omega arith }
@@ -558,10 +588,11 @@ pub +fill-block+fill-choice+fill-long-cut+fill-u-cut-spec : {M : Type 1} → sta
     (fill-u-cut-mul-to-c t)
     (fill-u-cut-add-to-c t)
     (fill-u-cut-part-a-requires t)
-    (fill-u-cut-part-c-requires t)
     (fill-u-cut-fill-block-requires t)
     (fill-u-cut-part-b-requires t)
     (fill-u-cut-fill-block-requires-2 t)
+    (fill-u-cut-part-c-requires t)
+    (fill-u-cut-part-a-requires-2 t)
     (fill-u-cut-fill-again-requires t)
     (fill-u-cut-add-result t)
     (fill-u-cut-add-result-2 t)
