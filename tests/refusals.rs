@@ -28,6 +28,12 @@ fn owned(name: &str, number: &str) -> Option<(String, String)> {
     number.parse::<u32>().ok().map(|_| (name.to_string(), number.to_string()))
 }
 
+// A line of the bindings: `1 Name: ..`, or `11 Name { value: u64 }: ..` where the refusal tells a value.
+fn listed(line: &str) -> Option<(String, String)> {
+    let (number, name) = line.split_once(':')?.0.split_once(' ')?;
+    owned(name.split(" {").next()?, number)
+}
+
 fn main() {
     let defined = found("crates/terms/specs/Terms.antt", |line| {
         let (name, number) = line.strip_prefix("refusal-number ")?.split_once(" = ")?;
@@ -40,10 +46,10 @@ fn main() {
         let refusal = !name.ends_with("_PLACES") && !name.starts_with("REPLY_") && name != "ANSWERED" && name != "SHORT_RESULT";
         owned(name, number).filter(|_| refusal)
     });
-    let bindings = found("bindings/rust/src/refusal.rs", |line| {
-        let (number, name) = line.split_once(':')?.0.split_once(' ')?;
-        owned(name, number)
-    });
+    // The bindings' own test has a list with a line of each kind.
+    let kinds = [owned("Plain", "4"), owned("Telling", "11")];
+    assert_eq!(found("bindings/rust/src/refusal/tests.rs", listed), kinds.map(Option::unwrap), "a line of the bindings is misread");
+    let bindings = found("bindings/rust/src/refusal.rs", listed);
     let rules = found("docs/RULES.md", |line| {
         let mut cells = line.strip_prefix("| ")?.split(" | ");
         let (number, name) = (cells.next()?, cells.next()?);

@@ -71,10 +71,9 @@ impl Clerk {
         let mut now = [0; 6];
         // SAFETY: the slice and the array are passed with their own lengths.
         let returned = unsafe { raw::uvalinda_handle_line(self.w, self.h, line.as_ptr(), line.len(), now.as_mut_ptr(), now.len()) };
-        let [w, h, kind, first, second, third] = now;
+        let [w, h, kind, values @ ..] = now;
         *self = Clerk { w, h };
-        refusal::unless_refused(returned, ())?;
-        Ok(match kind {
+        refusal::unless_refused(returned, values, |[first, second, third]| match kind {
             1 => Reply::Area { area: Area { w, h }, squares: first, finish: Square { x: second, y: third } },
             2 => Reply::Cell(Cell { x: first, y: second, blocks: third }),
             3 => Reply::Number(Number { number: first, blocks: second }),

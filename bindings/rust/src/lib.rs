@@ -93,8 +93,7 @@ impl Area {
         let mut found = [0; 3];
         // SAFETY: the array is passed with its own length.
         let returned = unsafe { raw::uvalinda_number_to_square(self.w, self.h, number, found.as_mut_ptr(), found.len()) };
-        let [x, y, blocks] = found;
-        refusal::unless_refused(returned, Cell { x, y, blocks })
+        refusal::unless_refused(returned, found, |[x, y, blocks]| Cell { x, y, blocks })
     }
 
     /// The number of a square. Refused: [`Refusal::AreaLimit`], then [`Refusal::SquareOutside`].
@@ -108,8 +107,7 @@ impl Area {
         let mut found = [0; 2];
         // SAFETY: the array is passed with its own length.
         let returned = unsafe { raw::uvalinda_square_to_number(self.w, self.h, x, y, found.as_mut_ptr(), found.len()) };
-        let [number, blocks] = found;
-        refusal::unless_refused(returned, Number { number, blocks })
+        refusal::unless_refused(returned, found, |[number, blocks]| Number { number, blocks })
     }
 
     /// The finish square, (w - 1, 0). It is the square of the last number except where w = 1 and h > 1, or h = 2 and w is odd and over 1.
@@ -123,8 +121,7 @@ impl Area {
         let mut found = [0; 2];
         // SAFETY: the array is passed with its own length.
         let returned = unsafe { raw::uvalinda_finish_square(self.w, self.h, found.as_mut_ptr(), found.len()) };
-        let [x, y] = found;
-        refusal::unless_refused(returned, Square { x, y })
+        refusal::unless_refused(returned, found, |[x, y]| Square { x, y })
     }
 
     /// Place i gets y·w + x of square number i. Says how many blocks the division has. Refused, with the table as it was:
@@ -142,7 +139,7 @@ impl Area {
         let mut blocks = [0];
         // SAFETY: the slice and the array are passed with their own lengths.
         let returned = unsafe { raw::uvalinda_fill_by_number(self.w, self.h, table.as_mut_ptr(), table.len(), blocks.as_mut_ptr(), blocks.len()) };
-        refusal::unless_refused(returned, blocks[0])
+        refusal::unless_refused(returned, blocks, |[blocks]| blocks)
     }
 
     /// Place y·w + x gets the square's number. Says how many blocks the division has. Refused, with the table as it was:
@@ -158,7 +155,7 @@ impl Area {
         let mut blocks = [0];
         // SAFETY: the slice and the array are passed with their own lengths.
         let returned = unsafe { raw::uvalinda_fill_by_square(self.w, self.h, table.as_mut_ptr(), table.len(), blocks.as_mut_ptr(), blocks.len()) };
-        refusal::unless_refused(returned, blocks[0])
+        refusal::unless_refused(returned, blocks, |[blocks]| blocks)
     }
 
     /// Whether a table holds what [`Area::fill_by_number`] writes. Refused: [`Refusal::AreaLimit`], then [`Refusal::TableLength`].
@@ -172,7 +169,7 @@ impl Area {
         let mut judged = [0; 3];
         // SAFETY: the slice and the array are passed with their own lengths.
         let returned = unsafe { raw::uvalinda_check_by_number(self.w, self.h, table.as_ptr(), table.len(), judged.as_mut_ptr(), judged.len()) };
-        refusal::unless_refused(returned, Check::found(judged))
+        refusal::unless_refused(returned, judged, Check::found)
     }
 
     /// Whether a table holds what [`Area::fill_by_square`] writes. Refused: [`Refusal::AreaLimit`], then [`Refusal::TableLength`].
@@ -186,7 +183,7 @@ impl Area {
         let mut judged = [0; 3];
         // SAFETY: the slice and the array are passed with their own lengths.
         let returned = unsafe { raw::uvalinda_check_by_square(self.w, self.h, table.as_ptr(), table.len(), judged.as_mut_ptr(), judged.len()) };
-        refusal::unless_refused(returned, Check::found(judged))
+        refusal::unless_refused(returned, judged, Check::found)
     }
 
     /// The area's squares in the order of their numbers. Refused: [`Refusal::AreaLimit`].

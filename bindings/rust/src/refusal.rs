@@ -1,15 +1,15 @@
 //! The refusals by name and number.
-use core::fmt;
 
-// The one list of them: number, name, when it is given, and what it says of itself.
+// Made of one list of them: number, name, when it is given, and what it says of itself. A refusal that tells something besides its number has a name for
+// that value too, as in `11 Name { count: u64 }`, and `{count}` in what it says.
 macro_rules! refusals {
-    ($($number:literal $name:ident: $when:literal, $says:literal;)*) => {
+    ($($number:literal $name:ident $({ $value:ident: u64 })?: $when:literal, $says:literal;)*) => {
         /// Why a call or a line is refused. `u32::from` gives the number that `orders` prints.
         #[derive(Clone, Copy, Debug, PartialEq, Eq, Hash)]
         #[non_exhaustive]
         #[repr(u32)]
         pub enum Refusal {
-            $(#[doc = $when] $name = $number,)*
+            $(#[doc = $when] $name $({ #[doc = "What is told besides the number."] $value: u64 })? = $number,)*
         }
 
         impl From<Refusal> for u32 {
@@ -20,18 +20,22 @@ macro_rules! refusals {
             }
         }
 
-        impl fmt::Display for Refusal {
-            fn fmt(&self, f: &mut fmt::Formatter<'_>) -> fmt::Result {
-                f.write_str(match self {
-                    $(Refusal::$name { .. } => $says,)*
-                })
+        impl core::fmt::Display for Refusal {
+            fn fmt(&self, f: &mut core::fmt::Formatter<'_>) -> core::fmt::Result {
+                match self {
+                    $(Refusal::$name { $($value)? } => write!(f, $says),)*
+                }
             }
         }
 
-        // The refusal of a number that the library returned.
-        fn named(returned: u32) -> Refusal {
+        // What `answer` makes of the values that a call wrote, unless it returned a refusal's number. What a refusal tells is the first of the values.
+        pub(crate) fn unless_refused<V, const N: usize, T>(returned: u32, values: [V; N], answer: impl FnOnce([V; N]) -> T) -> Result<T, Refusal>
+        where
+            V: Copy + Into<u64>,
+        {
             match returned {
-                $($number => Refusal::$name,)*
+                0 => Ok(answer(values)),
+                $($number => Err(Refusal::$name { $($value: values[0].into())? }),)*
                 // No result slice of these bindings is too short, and the library's promise has no other number.
                 _ => unreachable!("the library returned {returned}"),
             }
@@ -53,10 +57,5 @@ refusals! {
 
 impl core::error::Error for Refusal {}
 
-/// The value, unless the library returned a refusal's number.
-pub(crate) fn unless_refused<T>(returned: u32, value: T) -> Result<T, Refusal> {
-    match returned {
-        0 => Ok(value),
-        _ => Err(named(returned)),
-    }
-}
+#[cfg(test)]
+mod tests;
