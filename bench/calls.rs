@@ -4,74 +4,21 @@
 mod random;
 #[path = "../bindings/rust/src/raw.rs"]
 mod raw;
+mod common;
+mod copying;
+mod library;
 mod strong;
 mod versions;
 
+use common::{form, time};
+use library::*;
 use random::{Lines, Random};
 use std::fmt::Debug;
 use std::hint::black_box;
-use std::time::Instant;
 
-// SAFETY, here and below: each slice is passed with its own length, and no two of them overlap.
-fn number_to_square(w: u32, h: u32, number: u32) -> Result<(u32, u32, u32), u32> {
-    let mut result = [0; 3];
-    match unsafe { raw::uvalinda_number_to_square(w, h, number, result.as_mut_ptr(), result.len()) } {
-        0 => Ok((result[0], result[1], result[2])),
-        refusal => Err(refusal),
-    }
-}
-
-fn square_to_number(w: u32, h: u32, x: u32, y: u32) -> Result<(u32, u32), u32> {
-    let mut result = [0; 2];
-    match unsafe { raw::uvalinda_square_to_number(w, h, x, y, result.as_mut_ptr(), result.len()) } {
-        0 => Ok((result[0], result[1])),
-        refusal => Err(refusal),
-    }
-}
-
-fn finish_square(w: u32, h: u32) -> Result<(u32, u32), u32> {
-    let mut result = [0; 2];
-    match unsafe { raw::uvalinda_finish_square(w, h, result.as_mut_ptr(), result.len()) } {
-        0 => Ok((result[0], result[1])),
-        refusal => Err(refusal),
-    }
-}
-
-fn fill(w: u32, h: u32, table: &mut [u32], by_square: bool) -> Result<u64, u32> {
-    let call = if by_square { raw::uvalinda_fill_by_square } else { raw::uvalinda_fill_by_number };
-    let mut blocks = [0];
-    match unsafe { call(w, h, table.as_mut_ptr(), table.len(), blocks.as_mut_ptr(), blocks.len()) } {
-        0 => Ok(blocks[0]),
-        refusal => Err(refusal),
-    }
-}
-
-fn check(w: u32, h: u32, table: &[u32], by_square: bool) -> Result<Option<(u32, u32)>, u32> {
-    let call = if by_square { raw::uvalinda_check_by_square } else { raw::uvalinda_check_by_number };
-    let mut result = [0; 3];
-    match unsafe { call(w, h, table.as_ptr(), table.len(), result.as_mut_ptr(), result.len()) } {
-        0 => Ok((result[0] == 1).then_some((result[1], result[2]))),
-        refusal => Err(refusal),
-    }
-}
-
-fn handle_line(area: &mut Option<(u32, u32)>, line: &[u8]) -> Result<[u32; 4], u32> {
-    let (w, h) = area.unwrap_or((0, 0));
-    let mut now = [0; 6];
-    let refusal = unsafe { raw::uvalinda_handle_line(w, h, line.as_ptr(), line.len(), now.as_mut_ptr(), now.len()) };
-    *area = (now[0] != 0).then_some((now[0], now[1]));
-    match refusal {
-        0 => Ok([now[2], now[3], now[4], now[5]]),
-        refusal => Err(refusal),
-    }
-}
-
-// Nanoseconds for each of n things.
-fn time(n: usize, f: impl FnOnce()) -> f64 {
-    let start = Instant::now();
-    f();
-    start.elapsed().as_nanos() as f64 / n as f64
-}
+// The areas whose tables are timed.
+const TABLES: [(u32, u32); 9] =
+    [(64, 64), (33, 47), (256, 256), (1024, 1024), (4096, 4096), (8192, 8192), (4095, 4097), (3000, 5000), (40000, 400)];
 
 // Two functions over the same inputs: the least time a call of each.
 fn least<I: Copy, A: PartialEq + Debug>(inputs: &[I], mut one: impl FnMut(I) -> A, mut other: impl FnMut(I) -> A) -> (f64, f64) {
@@ -106,13 +53,7 @@ fn lookups(random: &mut Random) {
 
 // Lines of a form, and random lines of which many are refused, each under the area that the line before it left.
 fn lines(random: &mut Random) {
-    let form: Vec<Vec<u8>> = (0..200_000)
-        .map(|i| match (i % 100, i % 2) {
-            (0, _) => b"AREA 4096 4096".to_vec(),
-            (_, 0) => format!("N {}", random.below(4096 * 4096)).into_bytes(),
-            _ => format!("S {} {}", random.below(4096), random.below(4096)).into_bytes(),
-        })
-        .collect();
+    let form = form(random, 200_000);
     let mut lines = Lines::from(1);
     let mixed: Vec<Vec<u8>> = (0..200_000).map(|_| lines.next()).collect();
     for (area, call, lines) in [("4096 by 4096", "lines of a form", form), ("random", "random lines, half of them refused", mixed)] {
@@ -173,7 +114,7 @@ fn tables() {
     print!("| area | kind | fill | Rust fill | ratio | best Rust fill | ratio | to writing the index ");
     println!("| check | Rust check | ratio | best Rust check | ratio | to the fill |");
     println!("|{}", "---|".repeat(14));
-    for (w, h) in [(64, 64), (33, 47), (256, 256), (1024, 1024), (4096, 4096), (8192, 8192), (4095, 4097), (3000, 5000), (40000, 400)] {
+    for (w, h) in TABLES {
         for (by_square, kind) in [(false, "by number"), (true, "by square")] {
             let [fill, rust, best, check, rust_check, best_check, index] = least_of_tables(w, h, by_square);
             print!("| {w} by {h} | {kind} | {fill:.2} | {rust:.2} | {:.2} | {best:.2} | {:.2} | {:.2} ", fill / rust, fill / best, fill / index);
@@ -183,9 +124,39 @@ fn tables() {
     }
 }
 
+// Tables by number beside a Rust version that copies and compares as the library does.
+fn copies() {
+    println!("\n### Tables by number, beside a Rust version with the same idea\n\nNanoseconds a square, the least of 25 rounds.\n");
+    println!("| area | fill | copying Rust fill | ratio | check | copying Rust check | ratio | check to fill | the same in Rust |\n|{}", "---|".repeat(9));
+    for (w, h) in TABLES {
+        let n = w as usize * h as usize;
+        let (mut ours, mut theirs) = (vec![0; n], vec![0; n]);
+        assert_eq!(fill(w, h, &mut ours, false), copying::fill(w, h, &mut theirs));
+        assert!(ours == theirs);
+        let calls = 300_000usize.div_ceil(n);
+        let time = |call: &mut dyn FnMut()| time(n * calls, || (0..calls).for_each(|_| call()));
+        let mut best = [f64::MAX; 4];
+        for _ in 0..25 {
+            let round = [
+                time(&mut || _ = black_box(fill(w, h, black_box(&mut ours), false))),
+                time(&mut || _ = black_box(copying::fill(w, h, black_box(&mut theirs)))),
+                time(&mut || assert_eq!(check(w, h, black_box(&ours), false), Ok(None))),
+                time(&mut || assert_eq!(copying::check(w, h, black_box(&theirs)), Ok(None))),
+            ];
+            for (b, r) in best.iter_mut().zip(round) {
+                *b = b.min(r);
+            }
+        }
+        let [fill, rust, check, rust_check] = best;
+        print!("| {w} by {h} | {fill:.3} | {rust:.3} | {:.2} | {check:.3} | {rust_check:.3} | {:.2} ", fill / rust, check / rust_check);
+        println!("| {:.2} | {:.2} |", check / fill, rust_check / rust);
+    }
+}
+
 fn main() {
     let mut random = Random::from(1);
     lookups(&mut random);
     lines(&mut random);
     tables();
+    copies();
 }

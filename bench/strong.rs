@@ -2,12 +2,12 @@
 // between addresses, the kind is known when it is compiled, and blocks 2 wide and 2 or 3 deep are taken at once. A check by number stops at the first
 // wrong place.
 
-fn even_half(length: u32) -> u32 {
+pub fn even_half(length: u32) -> u32 {
     let half = length / 2;
     if length > 2 && half % 2 == 1 { half + 1 } else { half }
 }
 
-fn moved(place: u32, stride: i32, n: u32) -> u32 {
+pub fn moved(place: u32, stride: i32, n: u32) -> u32 {
     place.wrapping_add_signed(stride.wrapping_mul(n as i32))
 }
 
@@ -16,7 +16,7 @@ fn enter<const BY_SQUARE: bool>(table: &mut [u32], number: u32, place: u32) {
     if BY_SQUARE { table[place as usize] = number } else { table[number as usize] = place }
 }
 
-fn straight<const BY_SQUARE: bool>(table: &mut [u32], number: u32, place: u32, stride: i32, length: u32) {
+pub fn straight<const BY_SQUARE: bool>(table: &mut [u32], number: u32, place: u32, stride: i32, length: u32) {
     let mut place = place;
     for number in number..number + length {
         enter::<BY_SQUARE>(table, number, place);
@@ -25,7 +25,7 @@ fn straight<const BY_SQUARE: bool>(table: &mut [u32], number: u32, place: u32, s
 }
 
 // Up the side of a block 2 wide and down again.
-fn leaf<const BY_SQUARE: bool>(table: &mut [u32], number: u32, place: u32, run: i32, side: i32, deep: u32) {
+pub fn leaf<const BY_SQUARE: bool>(table: &mut [u32], number: u32, place: u32, run: i32, side: i32, deep: u32) {
     straight::<BY_SQUARE>(table, number, place, side, deep);
     straight::<BY_SQUARE>(table, number + deep, moved(moved(place, run, 1), side, deep - 1), -side, deep);
 }
@@ -58,9 +58,9 @@ fn walk<const BY_SQUARE: bool>(table: &mut [u32], number: u32, place: u32, run: 
 }
 
 // What a check has found: a wrong place and the value due there, or a place that no table has.
-struct Wrong {
-    place: u32,
-    due: u32,
+pub struct Wrong {
+    pub place: u32,
+    pub due: u32,
 }
 
 // Looks at a square by its number and its place, and says whether to go on: by number the first wrong place that is met is the least.
@@ -73,7 +73,7 @@ fn look<const BY_SQUARE: bool>(table: &[u32], wrong: &mut Wrong, number: u32, pl
     true
 }
 
-fn look_straight<const BY_SQUARE: bool>(table: &[u32], wrong: &mut Wrong, number: u32, place: u32, stride: i32, length: u32) -> bool {
+pub fn look_straight<const BY_SQUARE: bool>(table: &[u32], wrong: &mut Wrong, number: u32, place: u32, stride: i32, length: u32) -> bool {
     let mut place = place;
     for number in number..number + length {
         if !look::<BY_SQUARE>(table, wrong, number, place) {
@@ -84,7 +84,7 @@ fn look_straight<const BY_SQUARE: bool>(table: &[u32], wrong: &mut Wrong, number
     true
 }
 
-fn look_leaf<const BY_SQUARE: bool>(table: &[u32], wrong: &mut Wrong, number: u32, place: u32, run: i32, side: i32, deep: u32) -> bool {
+pub fn look_leaf<const BY_SQUARE: bool>(table: &[u32], wrong: &mut Wrong, number: u32, place: u32, run: i32, side: i32, deep: u32) -> bool {
     look_straight::<BY_SQUARE>(table, wrong, number, place, side, deep)
         && look_straight::<BY_SQUARE>(table, wrong, number + deep, moved(moved(place, run, 1), side, deep - 1), -side, deep)
 }
@@ -113,7 +113,7 @@ fn look_through<const BY_SQUARE: bool>(table: &[u32], wrong: &mut Wrong, number:
 }
 
 // Why a table of this length is neither filled nor checked, if it is not.
-fn judged(w: u32, h: u32, length: usize) -> Result<(), u32> {
+pub fn judged(w: u32, h: u32, length: usize) -> Result<(), u32> {
     if !(1..=65535).contains(&w) || !(1..=65535).contains(&h) {
         return Err(1);
     }
