@@ -14,7 +14,7 @@ use Rattle.copies.proofs.Alike.{again-count}
 use Rattle.copies.proofs.Siblings.{first-fits}
 use Rattle.fills.proofs.Counts.{few, long-count, u-count, side-count}
 use Rattle.fills.proofs.Repeats.{copied-so, second-asks, c-asks}
-use borrow.Fn.Kinds.{In}
+use borrow.Fn.Kinds.{In, Out}
 use borrow.Fn.PlainCycle.{Measures, is, falls, and}
 use Rattle.fills.proofs.fill_block.Reads as fill-block
 use Rattle.fills.proofs.fill_block.Kinds as fill-block-kinds
@@ -128,6 +128,34 @@ fill-u-cut-calls t = (
   fill-again-reads.Asked,
   fill-again-reads.Learnt,
 )
+
+-- a stop of a cut that is called at a measure t, by the record of the stop
+abbrev Long : (fill-long-cut-lts.Claims → In 1 fill-long-cut-kinds.ps → Out 1 fill-long-cut-kinds.ps fill-long-cut-kinds.r → Type 0) → ℕ → Type 0
+Long Stop t = Stop (fill-long-cut-calls t) (fill-long-cut-at t) fill-long-cut.Post
+
+abbrev U : (fill-u-cut-lts.Claims → In 1 fill-u-cut-kinds.ps → Out 1 fill-u-cut-kinds.ps fill-u-cut-kinds.r → Type 0) → ℕ → Type 0
+U Stop t = Stop (fill-u-cut-calls t) (fill-u-cut-at t) fill-u-cut.Post
+
+-- the stops on the way to the last part, which is then walked or copied: of a long cut from its first part's fill, and of a U cut from its last part, back
+abbrev long-way : {t : ℕ} → Long fill-long-cut-lts.After-fill-block t
+    → Long fill-long-cut-lts.After-long-part2 t × Long fill-long-cut-lts.After-long-part t × Long fill-long-cut-lts.After-even-half t
+    × Long fill-long-cut-lts.Start t
+long-way first =
+    let far = first .before .before in
+    let near = far .before in
+    let halved = near .before .before in
+    (far, near, halved, halved .before .before)
+
+abbrev u-way : {t : ℕ} → U fill-u-cut-lts.After-part-c t
+    → U fill-u-cut-lts.After-fill-block2 t × U fill-u-cut-lts.After-part-b t × U fill-u-cut-lts.After-fill-block t × U fill-u-cut-lts.After-part-a t
+    × U fill-u-cut-lts.After-even-half t × U fill-u-cut-lts.Start t
+u-way down =
+    let second = down .before .before .before in
+    let along = second .before .before in
+    let first = along .before .before .before in
+    let up = first .before .before in
+    let halved = up .before .before .before .before in
+    (second, along, first, up, halved, halved .before .before)
 
 fill-block-fill-choice-requires : (t : ℕ) → fill-block-lts.Need-fill-choice-requires (fill-block-calls t) (fill-block-at t) fill-block.Post
 fill-block-fill-choice-requires t c κs = (let m = c .before .before .pre .0 in omega arith, c .before .before .pre .1)
@@ -270,10 +298,7 @@ fill-long-cut-fill-again-requires t c κs =
     let equal = c .before in
     let kind = equal .before .before in
     let first = kind .before .before .before in
-    let far = first .before .before in
-    let near = far .before in
-    let halved = near .before .before in
-    let start = halved .before .before in
+    let (far, near, halved, start) = long-way first in
     second-asks (start .args .by-square) (kind .if1 .taken) (start .pre) (halved .even-half .ensures) (near .long-part .result) (far .long-part2 .result)
     (near .long-part .ensures) (far .long-part2 .ensures) (first .fill-block .ensures .0) (first .fill-block .kept .0) (equal .if2 .taken)
 
@@ -290,10 +315,7 @@ fill-long-cut-returns t c =
     let asked = copied .before in
     let kind = asked .before .before .before in
     let first = kind .before .before .before in
-    let far = first .before .before in
-    let near = far .before in
-    let halved = near .before .before in
-    let start = halved .before .before in
+    let (far, near, halved, start) = long-way first in
     let again = fill-long-cut-fill-again-requires t asked (copied .fill-again .lifetimes) in
     let is-near = near .long-part .ensures in
     let is-far = far .long-part2 .ensures in
@@ -309,8 +331,7 @@ fill-long-cut-add-result-2 t c =
     let copied = c .before .before in
     let kind = copied .before .before .before .before in
     let first = kind .before .before .before in
-    let halved = first .before .before .before .before .before in
-    let start = halved .before .before in
+    let (far, near, halved, start) = long-way first in
     record { fits = let count = fill-long-cut-returns t c .1 in let most = few (start .pre .1 .0) in omega arith }
 
 fill-long-cut-add-result : (t : ℕ) → fill-long-cut-lts.Need-add-result (fill-long-cut-calls t) (fill-long-cut-at t) fill-long-cut.Post
@@ -319,9 +340,7 @@ fill-long-cut-add-result t c = record { fits = let all = fill-long-cut-add-resul
 fill-long-cut-fill-block-requires-2 : (t : ℕ) → fill-long-cut-lts.Need-fill-block-requires-2 (fill-long-cut-calls t) (fill-long-cut-at t) fill-long-cut.Post
 fill-long-cut-fill-block-requires-2 t c κs =
     let first = c .before .before .before .before in
-    let far = first .before .before in
-    let halved = far .before .before .before in
-    let start = halved .before .before in
+    let (far, near, halved, start) = long-way first in
     second-call (start .pre) (halved .even-half .ensures) (first .fill-block .kept .0) (far .long-part2 .result) (far .long-part2 .ensures)
 
 fill-long-cut-same-length-2 : (t : ℕ) → fill-long-cut-lts.Need-same-length-2 (fill-long-cut-calls t) (fill-long-cut-at t) fill-long-cut.Post
@@ -334,10 +353,7 @@ fill-long-cut-returns-2 : (t : ℕ) → fill-long-cut-lts.Need-returns-2 (fill-l
 fill-long-cut-returns-2 t c =
     let second = c .before .before in
     let first = second .before .before .before .before .before in
-    let far = first .before .before in
-    let near = far .before in
-    let halved = near .before .before in
-    let start = halved .before .before in (
+    let (far, near, halved, start) = long-way first in (
       long-steps (start .pre) (halved .even-half .ensures) (enter-one (start .args .by-square)) (start .args .table .now) (near .long-part .ensures)
           (far .long-part2 .ensures) (first .fill-block .ensures .0) (second .fill-block2 .ensures .0),
       long-count (start .pre) (near .long-part .ensures) (far .long-part2 .ensures) (first .fill-block .ensures .1) (second .fill-block2 .ensures .1),
@@ -347,8 +363,7 @@ fill-long-cut-add-result-4 : (t : ℕ) → fill-long-cut-lts.Need-add-result-4 (
 fill-long-cut-add-result-4 t c =
     let second = c .before .before in
     let first = second .before .before .before .before .before in
-    let halved = first .before .before .before .before .before in
-    let start = halved .before .before in
+    let (far, near, halved, start) = long-way first in
     record { fits = let count = fill-long-cut-returns-2 t c .1 in let most = few (start .pre .1 .0) in omega arith }
 
 fill-long-cut-add-result-3 : (t : ℕ) → fill-long-cut-lts.Need-add-result-3 (fill-long-cut-calls t) (fill-long-cut-at t) fill-long-cut.Post
@@ -408,10 +423,7 @@ fill-u-cut-part-c-requires t c κs =
 fill-u-cut-part-a-requires-2 : (t : ℕ) → fill-u-cut-lts.Need-part-a-requires-2 (fill-u-cut-calls t) (fill-u-cut-at t) fill-u-cut.Post
 fill-u-cut-part-a-requires-2 t c κs =
     let kind = c .before .before .before in
-    let second = kind .before .before .before .before in
-    let first = second .before .before .before .before .before in
-    let halved = first .before .before .before .before .before .before in
-    let start = halved .before .before in
+    let (second, along, first, up, halved, start) = u-way (kind .before) in
     part-asks (start .pre)
 
 fill-u-cut-fill-again-requires : (t : ℕ) → fill-u-cut-lts.Need-fill-again-requires (fill-u-cut-calls t) (fill-u-cut-at t) fill-u-cut.Post
@@ -419,12 +431,7 @@ fill-u-cut-fill-again-requires t c κs =
     let even = c .before .before in
     let kind = even .before .before in
     let down = kind .before in
-    let second = down .before .before .before in
-    let along = second .before .before in
-    let first = along .before .before .before in
-    let up = first .before .before in
-    let halved = up .before .before .before .before in
-    let start = halved .before .before in
+    let (second, along, first, up, halved, start) = u-way down in
     c-asks (start .args .by-square) (kind .if1 .taken) (start .pre) (halved .even-half .ensures) (up .part-a .result) (along .part-b .result)
     (c .part-a2 .result) (down .part-c .result) (up .part-a .ensures) (c .part-a2 .ensures) (down .part-c .ensures) (first .fill-block .ensures .0)
     (second .fill-block2 .ensures .0) (first .fill-block .kept .0) (second .fill-block2 .kept .0) (even .if2 .taken)
@@ -433,8 +440,7 @@ fill-u-cut-same-length : (t : ℕ) → fill-u-cut-lts.Need-same-length (fill-u-c
 fill-u-cut-same-length t c =
     let copied = c .before .before in
     let kind = copied .before .before .before .before .before in
-    let second = kind .before .before .before .before in
-    let first = second .before .before .before .before .before in
+    let (second, along, first, up, halved, start) = u-way (kind .before) in
     copied .fill-again .kept .0 ∙ second .fill-block2 .kept .0 ∙ first .fill-block .kept .0
 
 fill-u-cut-returns : (t : ℕ) → fill-u-cut-lts.Need-returns (fill-u-cut-calls t) (fill-u-cut-at t) fill-u-cut.Post
@@ -443,12 +449,7 @@ fill-u-cut-returns t c =
     let again-up = copied .before in
     let kind = again-up .before .before .before .before in
     let down = kind .before in
-    let second = down .before .before .before in
-    let along = second .before .before in
-    let first = along .before .before .before in
-    let up = first .before .before in
-    let halved = up .before .before .before .before in
-    let start = halved .before .before in
+    let (second, along, first, up, halved, start) = u-way down in
     let again = fill-u-cut-fill-again-requires t again-up (copied .fill-again .lifetimes) in
     let is-a = up .part-a .ensures in
     let is-b = along .part-b .ensures in
@@ -465,10 +466,7 @@ fill-u-cut-add-result-3 : (t : ℕ) → fill-u-cut-lts.Need-add-result-3 (fill-u
 fill-u-cut-add-result-3 t c =
     let copied = c .before .before in
     let kind = copied .before .before .before .before .before in
-    let second = kind .before .before .before .before in
-    let first = second .before .before .before .before .before in
-    let halved = first .before .before .before .before .before .before in
-    let start = halved .before .before in
+    let (second, along, first, up, halved, start) = u-way (kind .before) in
     record { fits = let count = fill-u-cut-returns t c .1 in let most = few (start .pre .1 .0) in omega arith }
 
 fill-u-cut-add-result-2 : (t : ℕ) → fill-u-cut-lts.Need-add-result-2 (fill-u-cut-calls t) (fill-u-cut-at t) fill-u-cut.Post
@@ -480,29 +478,20 @@ fill-u-cut-add-result t c = record { fits = let all = fill-u-cut-add-result-3 t 
 fill-u-cut-fill-block-requires-3 : (t : ℕ) → fill-u-cut-lts.Need-fill-block-requires-3 (fill-u-cut-calls t) (fill-u-cut-at t) fill-u-cut.Post
 fill-u-cut-fill-block-requires-3 t c κs =
     let down = c .before .before in
-    let second = down .before .before .before in
-    let first = second .before .before .before .before .before in
-    let halved = first .before .before .before .before .before .before in
-    let start = halved .before .before in
+    let (second, along, first, up, halved, start) = u-way down in
     c-call (start .pre) (halved .even-half .ensures) (second .fill-block2 .kept .0 ∙ first .fill-block .kept .0) (down .part-c .result) (down .part-c .ensures)
 
 fill-u-cut-same-length-2 : (t : ℕ) → fill-u-cut-lts.Need-same-length-2 (fill-u-cut-calls t) (fill-u-cut-at t) fill-u-cut.Post
 fill-u-cut-same-length-2 t c =
     let third = c .before .before in
-    let second = third .before .before .before .before .before .before in
-    let first = second .before .before .before .before .before in
+    let (second, along, first, up, halved, start) = u-way (third .before .before .before) in
     third .fill-block3 .kept .0 ∙ second .fill-block2 .kept .0 ∙ first .fill-block .kept .0
 
 fill-u-cut-returns-2 : (t : ℕ) → fill-u-cut-lts.Need-returns-2 (fill-u-cut-calls t) (fill-u-cut-at t) fill-u-cut.Post
 fill-u-cut-returns-2 t c =
     let third = c .before .before in
     let down = third .before .before .before in
-    let second = down .before .before .before in
-    let along = second .before .before in
-    let first = along .before .before .before in
-    let up = first .before .before in
-    let halved = up .before .before .before .before in
-    let start = halved .before .before in
+    let (second, along, first, up, halved, start) = u-way down in
     let is-a = up .part-a .ensures in
     let is-b = along .part-b .ensures in
     let is-c = down .part-c .ensures in (
@@ -514,10 +503,7 @@ fill-u-cut-returns-2 t c =
 fill-u-cut-add-result-6 : (t : ℕ) → fill-u-cut-lts.Need-add-result-6 (fill-u-cut-calls t) (fill-u-cut-at t) fill-u-cut.Post
 fill-u-cut-add-result-6 t c =
     let third = c .before .before in
-    let second = third .before .before .before .before .before .before in
-    let first = second .before .before .before .before .before in
-    let halved = first .before .before .before .before .before .before in
-    let start = halved .before .before in
+    let (second, along, first, up, halved, start) = u-way (third .before .before .before) in
     record { fits = let count = fill-u-cut-returns-2 t c .1 in let most = few (start .pre .1 .0) in omega arith }
 
 fill-u-cut-add-result-5 : (t : ℕ) → fill-u-cut-lts.Need-add-result-5 (fill-u-cut-calls t) (fill-u-cut-at t) fill-u-cut.Post
