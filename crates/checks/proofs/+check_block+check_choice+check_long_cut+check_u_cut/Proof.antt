@@ -11,7 +11,7 @@ use Rattle.leaves.proofs.Parts.{to-cut, part-asks, first-call, second-call, sec
 use Rattle.leaves.proofs.Parts.{side-call, side-over}
 use Rattle.copies.proofs.Siblings.{first-fits}
 use Rattle.checks.proofs.Repeats.{found-before, second-asks, second-stands, c-asks, c-stands}
-use borrow.Fn.Kinds.{In}
+use borrow.Fn.Kinds.{In, Out}
 use borrow.Fn.PlainCycle.{Measures, is, falls, and}
 use Rattle.checks.proofs.check_block.Reads as check-block
 use Rattle.checks.proofs.check_block.Kinds as check-block-kinds
@@ -137,6 +137,34 @@ check-u-cut-calls t = (
   holds-again-reads.Learnt,
 )
 
+-- a stop of a cut that is called at a measure t, by the record of the stop
+abbrev Long : (check-long-cut-lts.Claims → In 1 check-long-cut-kinds.ps → Out 1 check-long-cut-kinds.ps check-long-cut-kinds.r → Type 0) → ℕ → Type 0
+Long Stop t = Stop (check-long-cut-calls t) (check-long-cut-at t) check-long-cut.Post
+
+abbrev U : (check-u-cut-lts.Claims → In 1 check-u-cut-kinds.ps → Out 1 check-u-cut-kinds.ps check-u-cut-kinds.r → Type 0) → ℕ → Type 0
+U Stop t = Stop (check-u-cut-calls t) (check-u-cut-at t) check-u-cut.Post
+
+-- the stops on the way to the last part, which is then walked or compared, back from the check of the part before it
+abbrev long-way : {t : ℕ} → Long check-long-cut-lts.After-check-block t
+    → Long check-long-cut-lts.After-long-part2 t × Long check-long-cut-lts.After-long-part t × Long check-long-cut-lts.After-even-half t
+    × Long check-long-cut-lts.Start t
+long-way first =
+    let far = first .before in
+    let near = far .before in
+    let halved = near .before .before in
+    (far, near, halved, halved .before .before)
+
+abbrev u-way : {t : ℕ} → U check-u-cut-lts.After-check-block2 t
+    → U check-u-cut-lts.After-part-b t × U check-u-cut-lts.After-check-block t × U check-u-cut-lts.After-part-c t × U check-u-cut-lts.After-part-a t
+    × U check-u-cut-lts.After-even-half t × U check-u-cut-lts.Start t
+u-way second =
+    let along = second .before in
+    let first = along .before in
+    let down = first .before in
+    let up = down .before in
+    let halved = up .before .before .before .before in
+    (along, first, down, up, halved, halved .before .before)
+
 check-block-pack-wrong-requires : (t : ℕ) → check-block-lts.Need-pack-wrong-requires (check-block-calls t) (check-block-at t) check-block.Post
 check-block-pack-wrong-requires t c κs = tt
 
@@ -257,10 +285,7 @@ check-long-cut-holds-again-requires : (t : ℕ) → check-long-cut-lts.Need-hold
 check-long-cut-holds-again-requires t c κs =
     let told = c .before in
     let first = told .before .before in
-    let far = first .before in
-    let near = far .before in
-    let halved = near .before .before in
-    let start = halved .before .before in
+    let (far, near, halved, start) = long-way first in
     second-asks (start .pre) (halved .even-half .ensures) (start .args .by-square) (near .long-part .result) (far .long-part2 .result)
     (near .long-part .ensures) (far .long-part2 .ensures) (start .args .so-far) (first .check-block .ensures)
     (told .comparable .ensures) (c .if1 .taken)
@@ -271,10 +296,7 @@ check-long-cut-returns t c =
     let asked = held .before in
     let told = asked .before in
     let first = told .before .before in
-    let far = first .before in
-    let near = far .before in
-    let halved = near .before .before in
-    let start = halved .before .before in
+    let (far, near, halved, start) = long-way first in
     long-steps (start .pre) (halved .even-half .ensures) (least-one (start .args .by-square) (start .args .table .now)) (start .args .so-far)
     (near .long-part .ensures) (far .long-part2 .ensures) (first .check-block .ensures)
     (second-stands (start .pre) (halved .even-half .ensures) (start .args .by-square) (near .long-part .result) (far .long-part2 .result)
@@ -285,19 +307,13 @@ check-long-cut-check-block-requires-2 :
     (t : ℕ) → check-long-cut-lts.Need-check-block-requires-2 (check-long-cut-calls t) (check-long-cut-at t) check-long-cut.Post
 check-long-cut-check-block-requires-2 t c κs =
     let first = c .before .before .before in
-    let far = first .before in
-    let near = far .before in
-    let halved = near .before .before in
-    let start = halved .before .before in
+    let (far, near, halved, start) = long-way first in
     second-call (start .pre) (halved .even-half .ensures) refl (far .long-part2 .result) (far .long-part2 .ensures)
 
 check-long-cut-returns-2 : (t : ℕ) → check-long-cut-lts.Need-returns-2 (check-long-cut-calls t) (check-long-cut-at t) check-long-cut.Post
 check-long-cut-returns-2 t c =
     let first = c .before .before .before .before in
-    let far = first .before in
-    let near = far .before in
-    let halved = near .before .before in
-    let start = halved .before .before in
+    let (far, near, halved, start) = long-way first in
     long-steps (start .pre) (halved .even-half .ensures) (least-one (start .args .by-square) (start .args .table .now)) (start .args .so-far)
     (near .long-part .ensures) (far .long-part2 .ensures) (first .check-block .ensures) (c .check-block2 .ensures)
 
@@ -350,12 +366,7 @@ check-u-cut-holds-again-requires : (t : ℕ) → check-u-cut-lts.Need-holds-agai
 check-u-cut-holds-again-requires t c κs =
     let told = c .before in
     let second = told .before .before in
-    let along = second .before in
-    let first = along .before in
-    let down = first .before in
-    let up = down .before in
-    let halved = up .before .before .before .before in
-    let start = halved .before .before in
+    let (along, first, down, up, halved, start) = u-way second in
     c-asks (start .pre) (halved .even-half .ensures) (start .args .by-square) (up .part-a .result) (along .part-b .result) (down .part-c .result)
     (up .part-a .ensures) (down .part-c .ensures) (start .args .so-far) (first .check-block .ensures) (second .check-block2 .ensures)
     (told .comparable .ensures) (c .if1 .taken)
@@ -366,12 +377,7 @@ check-u-cut-returns t c =
     let asked = held .before in
     let told = asked .before in
     let second = told .before .before in
-    let along = second .before in
-    let first = along .before in
-    let down = first .before in
-    let up = down .before in
-    let halved = up .before .before .before .before in
-    let start = halved .before .before in
+    let (along, first, down, up, halved, start) = u-way second in
     u-steps (start .pre) (halved .even-half .ensures) (least-one (start .args .by-square) (start .args .table .now)) (start .args .so-far)
     (up .part-a .ensures) (along .part-b .ensures) (down .part-c .ensures) (first .check-block .ensures) (second .check-block2 .ensures)
     (c-stands (start .pre) (halved .even-half .ensures) (start .args .by-square) (up .part-a .result) (along .part-b .result) (down .part-c .result)
@@ -381,23 +387,13 @@ check-u-cut-returns t c =
 check-u-cut-check-block-requires-3 : (t : ℕ) → check-u-cut-lts.Need-check-block-requires-3 (check-u-cut-calls t) (check-u-cut-at t) check-u-cut.Post
 check-u-cut-check-block-requires-3 t c κs =
     let second = c .before .before .before in
-    let along = second .before in
-    let first = along .before in
-    let down = first .before in
-    let up = down .before in
-    let halved = up .before .before .before .before in
-    let start = halved .before .before in
+    let (along, first, down, up, halved, start) = u-way second in
     c-call (start .pre) (halved .even-half .ensures) refl (down .part-c .result) (down .part-c .ensures)
 
 check-u-cut-returns-2 : (t : ℕ) → check-u-cut-lts.Need-returns-2 (check-u-cut-calls t) (check-u-cut-at t) check-u-cut.Post
 check-u-cut-returns-2 t c =
     let second = c .before .before .before .before in
-    let along = second .before in
-    let first = along .before in
-    let down = first .before in
-    let up = down .before in
-    let halved = up .before .before .before .before in
-    let start = halved .before .before in
+    let (along, first, down, up, halved, start) = u-way second in
     u-steps (start .pre) (halved .even-half .ensures) (least-one (start .args .by-square) (start .args .table .now)) (start .args .so-far)
     (up .part-a .ensures) (along .part-b .ensures) (down .part-c .ensures) (first .check-block .ensures) (second .check-block2 .ensures)
     (c .check-block3 .ensures)
