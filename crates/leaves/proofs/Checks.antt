@@ -24,16 +24,11 @@ module _ (by-square : Bool) (t : List ℕ) (least n p i v : ℕ) (there : i ≡ 
   pub right-one : getD t i 0 ≡ v → least ≡ least-one by-square t least n p
   right-one same = rw (eq-eqb (getD t (cond by-square p n) 0) (cond by-square n p) (ap (λ j. getD t j 0) (sym there) ∙ same ∙ due))
 
-  wrong-one : (getD t i 0 ≡ v → ⊥) → min least (wrong-packed i v) ≡ least-one by-square t least n p
-  wrong-one other =
-      ap₂ (λ j u. min least (wrong-packed j u)) there due
+  pub wrong-one : (getD t i 0 ≡ v → ⊥) → {packed : ℕ} → packed ≡ wrong-packed i v → min least packed ≡ least-one by-square t least n p
+  wrong-one other is =
+      ap (min least) is
+      ∙ ap₂ (λ j u. min least (wrong-packed j u)) there due
       ∙ sym (rw (ne-eqb (getD t (cond by-square p n) 0) (cond by-square n p) (λ same. other (ap (λ j. getD t j 0) there ∙ same ∙ sym due))))
-
-  pub lower-one : (getD t i 0 ≡ v → ⊥) → (packed : ℕ) → packed ≡ wrong-packed i v → packed < least → packed ≡ least-one by-square t least n p
-  lower-one other packed is l = omega arith ∙ wrong-one other
-
-  pub higher-one : (getD t i 0 ≡ v → ⊥) → (packed : ℕ) → packed ≡ wrong-packed i v → least ≤ packed → least ≡ least-one by-square t least n p
-  higher-one other packed is l = omega arith ∙ wrong-one other
 
 module _ (by-square : Bool) (t : List ℕ) where
   -- the place that a look at square number n, at place p, is at, and whether it is right
@@ -49,7 +44,7 @@ module _ (by-square : Bool) (t : List ℕ) where
 
   below-one : (least n p : ℕ) → (Right n p → ⊥) → least-one by-square t least n p ≤ looked n p
   below-one least n p other =
-      subst (λ (m : ℕ). m ≤ looked n p) (wrong-one by-square t least n p (cond by-square p n) (cond by-square n p) refl refl other) (omega arith)
+      subst (λ (m : ℕ). m ≤ looked n p) (wrong-one by-square t least n p (cond by-square p n) (cond by-square n p) refl refl other refl) (omega arith)
 
   lesser : (P : ℕ → Type 0) (least wrong : ℕ) (less : Bool) → ltb wrong least ≡ less → P least → P wrong → P (min least wrong)
   lesser P least wrong true e a b = let l = ltb-true wrong least e in subst⁻¹ P (omega arith) b

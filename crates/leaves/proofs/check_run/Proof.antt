@@ -47,12 +47,6 @@ compare-requires c κs =
     let start = turn .before .before in
     run-fits (start .args .k) (start .pre) (turn .loop .i) (test .loop-test .taken) (c .before .stepped .ensures) (c .place-of .ensures) refl
 
-add-i : tie.Need-add-i Inv-looked-at μ-left
-add-i c = search needs
-
-loop-less : tie.Need-loop-less Inv-looked-at μ-left
-loop-less c = search needs
-
 loop-again : tie.Need-loop-again Inv-looked-at μ-left
 loop-again c =
     let stepped = c .before .before in
@@ -82,7 +76,7 @@ check-run-spec =
     place-of-requires
     add-compare
     compare-requires
-    add-i
-    loop-less
+    (λ c. search needs)
+    (λ c. search needs)
     loop-again
     returns)

@@ -1,11 +1,13 @@
 -- `leaves::compare` meets its contract: the place is n or p, and either is in the table. A right value leaves the least wrong place, and a wrong
 -- one may lower it.
 use borrow.Author.Needs.{needs}
-use mathlib.Core.Path.{subst⁻¹}
-use Prim.Native.Nat.{ℕ, _<_}
+use mathlib.Core.Path.{_≡_, subst⁻¹, _∙_}
+use Prim.Native.Nat.{ℕ, _<_, min}
+use native.Mathlib.Omega.{arith}
 use lib.ListN.{length}
+use Rattle.leaves.specs.Walk.{least-one}
 use Rattle.leaves.proofs.Entries.{either-below}
-use Rattle.leaves.proofs.Checks.{right-one, lower-one, higher-one}
+use Rattle.leaves.proofs.Checks.{right-one, wrong-one}
 use Rattle.leaves.proofs.compare.Statement.{statement}
 use Rattle.leaves.proofs.compare.Tie as tie
 
@@ -29,27 +31,23 @@ returns c =
     right-one (asked .by-square) (asked .table .now) (asked .least) (asked .n) (asked .p) (place .either .result) (due .either2 .result)
     (place .either .ensures) (due .either2 .ensures) (c .if1 .taken)
 
-returns-2 : tie.Need-returns-2
-returns-2 c =
-    let packed = c .before in
+-- of a wrong value, the lesser of its place and the least wrong one before
+lesser : (packed : tie.After-pack-wrong) →
+    let asked = packed .before .before .before .before .before .before .args in
+    min (asked .least) (packed .pack-wrong .result) ≡ least-one (asked .by-square) (asked .table .now) (asked .least) (asked .n) (asked .p)
+lesser packed =
     let looked = packed .before in
     let due = looked .before .before in
     let place = due .before in
-    let start = place .before .before in
-    let asked = start .args in
-    lower-one (asked .by-square) (asked .table .now) (asked .least) (asked .n) (asked .p) (place .either .result) (due .either2 .result)
-    (place .either .ensures) (due .either2 .ensures) (looked .if1 .left) (packed .pack-wrong .result) (packed .pack-wrong .ensures) (c .if2 .taken)
+    let asked = place .before .before .args in
+    wrong-one (asked .by-square) (asked .table .now) (asked .least) (asked .n) (asked .p) (place .either .result) (due .either2 .result)
+    (place .either .ensures) (due .either2 .ensures) (looked .if1 .left) (packed .pack-wrong .ensures)
+
+returns-2 : tie.Need-returns-2
+returns-2 c = let less = c .if2 .taken in omega arith ∙ lesser (c .before)
 
 returns-3 : tie.Need-returns-3
-returns-3 c =
-    let packed = c .before in
-    let looked = packed .before in
-    let due = looked .before .before in
-    let place = due .before in
-    let start = place .before .before in
-    let asked = start .args in
-    higher-one (asked .by-square) (asked .table .now) (asked .least) (asked .n) (asked .p) (place .either .result) (due .either2 .result)
-    (place .either .ensures) (due .either2 .ensures) (looked .if1 .left) (packed .pack-wrong .result) (packed .pack-wrong .ensures) (c .if2 .left)
+returns-3 c = let more = c .if2 .left in omega arith ∙ lesser (c .before)
 
 pub compare-spec : {M : Type 1} → statement M
 compare-spec =

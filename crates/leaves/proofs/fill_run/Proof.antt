@@ -57,12 +57,6 @@ enter-requires c κs =
     run-fits (start .args .k) (start .pre) (turn .loop .i) (test .loop-test .taken) (stepped .stepped .ensures) (c .before .place-of .ensures)
     (kept (start .args .k) (start .args .by-square) (start .args .table .now) (start .args .at) (start .args .area .w) (turn .loop .i) (turn .loop .inv .1))
 
-add-i : tie.Need-add-i Inv-entered μ-left
-add-i c = search needs
-
-loop-less : tie.Need-loop-less Inv-entered μ-left
-loop-less c = search needs
-
 loop-again : tie.Need-loop-again Inv-entered μ-left
 loop-again c =
     let entered = c .before .before in
@@ -102,8 +96,8 @@ fill-run-spec =
     place-of-requires
     add-enter
     enter-requires
-    add-i
-    loop-less
+    (λ c. search needs)
+    (λ c. search needs)
     loop-again
     same-length
     returns)
