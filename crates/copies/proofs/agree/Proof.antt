@@ -19,6 +19,18 @@ abbrev μ-left : tie.MeasureT-loop
 loop-holds : tie.Need-loop-holds Inv-looked-at μ-left
 loop-holds c = (omega arith, omega arith, (λ e j l. absurd (omega arith), λ agree. refl))
 
+-- with one place more, no more are counted than were looked at
+still-few : (c : tie.After-either Inv-looked-at μ-left) →
+    let turn = c .before .before .before .before .before in
+    turn .loop .same + c .either .result ≤ turn .loop .i + 1
+still-few c =
+    let image = c .before in
+    let turn = image .before .before .before .before in
+    let given = turn .before .before .args in
+    let one = at-most-one (eqb (getD (given .table .now) (given .to + turn .loop .i) 0) (image .image-of .result)) (c .either .ensures) in
+    let few = turn .loop .inv .1 in
+    omega arith
+
 add-right : tie.Need-add-right Inv-looked-at μ-left
 add-right c = search needs
 
@@ -45,20 +57,10 @@ either-requires c κs = search needs
 
 add-same : tie.Need-add-same Inv-looked-at μ-left
 add-same c =
-    let image = c .before in
-    let test = image .before .before .before in
-    let turn = test .before in
-    let given = turn .before .before .args in
-    let one = at-most-one (eqb (getD (given .table .now) (given .to + turn .loop .i) 0) (image .image-of .result)) (c .either .ensures) in
-    let few = turn .loop .inv .1 in
+    let test = c .before .before .before .before in
+    let few = still-few c in
     let more = test .loop-test .taken in
-    record { fits = omega (arith, turn .before .before .fits .n) }
-
-add-i : tie.Need-add-i Inv-looked-at μ-left
-add-i c = search needs
-
-loop-less : tie.Need-loop-less Inv-looked-at μ-left
-loop-less c = search needs
+    record { fits = omega (arith, test .before .before .before .fits .n) }
 
 loop-again : tie.Need-loop-again Inv-looked-at μ-left
 loop-again c =
@@ -66,11 +68,9 @@ loop-again c =
     let test = image .before .before .before in
     let turn = test .before in
     let given = turn .before .before .args in
-    let one = at-most-one (eqb (getD (given .table .now) (given .to + turn .loop .i) 0) (image .image-of .result)) (c .either .ensures) in
-    let few = turn .loop .inv .1 in
     let more = test .loop-test .taken in (
       omega arith,
-      omega arith,
+      still-few c,
       agree-more (given .opposite) (given .c) (given .table .now) (given .from) (given .to) (turn .loop .i) (turn .loop .same) (image .image-of .result)
           (c .either .result) (image .image-of .ensures) (c .either .ensures) (turn .loop .inv .1) (turn .loop .inv .2),
     )
@@ -99,7 +99,7 @@ agree-spec =
     image-of-requires
     either-requires
     add-same
-    add-i
-    loop-less
+    (λ c. search needs)
+    (λ c. search needs)
     loop-again
     returns)
