@@ -63,30 +63,38 @@ rest-by i e b false p = omega arith
 pub rest-of : (i e b skip : ℕ) → skip ≡ cond (leb (e * b) i) e 0 → skip * b ≤ i
 rest-of i e b skip p = subst⁻¹ (λ (n : ℕ). n * b ≤ i) p (rest-by i e b (leb (e * b) i) refl)
 
--- the parts of a U cut: A has the numbers below e·m, B the a·(b - e) after them, C the rest
+-- a U cut's sums fit
 pub block-sums : (k : Block) → Inside longest-side longest-side k → choice (k .a) (k .b) ≡ UCut → (e : ℕ) → e ≡ even-half (k .b) → Sums-fit 0 (k .a) (k .b) e
 block-sums k inside c e is =
     let all = product-limit (k .a) (k .b) (a-limit k inside) (b-limit k inside) in
     sums-fit 0 (k .a) (k .b) e (u-lengths k (inside .sized) c .1) is (omega arith)
 
-module _ (k : Block) (i : ℕ) (inside : Inside longest-side longest-side k) (l : i < area k) (c : choice (k .a) (k .b) ≡ UCut) where
-  pub a-enters : i < even-half (k .b) * (k .a / 2) → Enters k i (part A k) i
+-- the parts of a U cut, q as the code has one: A has the numbers below e·m, B the a·(b - e) after them, C the rest
+module _ (k : Block) (i : ℕ) (inside : Inside longest-side longest-side k) (l : i < area k) (c : choice (k .a) (k .b) ≡ UCut) (e : ℕ)
+    (half : e ≡ even-half (k .b)) {q : Block} where
+  pub a-enters : q ≡ part A k → i < e * (k .a / 2) → Enters k i q i
   unfolding parts-of part
-  a-enters m = enters k inside [] (part A k) (part B k ∷ part C k ∷ []) (parts-are k UCut c) i i (omega arith) m
+  a-enters is m =
+      subst⁻¹ (λ (q : Block). Enters k i q i) is
+      (enters k inside [] (part A k) (part B k ∷ part C k ∷ []) (parts-are k UCut c) i i (omega arith) (rw half at m))
 
-  pub b-enters : even-half (k .b) * (k .a / 2) ≤ i → i < even-half (k .b) * (k .a / 2) + k .a * (k .b - even-half (k .b)) →
-      Enters k i (part B k) (i - even-half (k .b) * (k .a / 2))
+  pub b-enters : q ≡ part B k → e * (k .a / 2) ≤ i → i < e * (k .a / 2) + k .a * (k .b - e) → Enters k i q (i - e * (k .a / 2))
   unfolding parts-of part
-  b-enters m n =
-      enters k inside (part A k ∷ []) (part B k) (part C k ∷ []) (parts-are k UCut c) i (i - even-half (k .b) * (k .a / 2)) (omega arith) (omega arith)
+  b-enters is m n =
+      let from = rw half at m in
+      let to = rw half at n in
+      subst⁻¹ (λ (q : Block). Enters k i q (i - e * (k .a / 2))) is
+      (enters k inside (part A k ∷ []) (part B k) (part C k ∷ []) (parts-are k UCut c) i (i - e * (k .a / 2))
+      (rw half (omega arith)) (rw half (omega arith)))
 
-  pub c-enters : even-half (k .b) * (k .a / 2) + k .a * (k .b - even-half (k .b)) ≤ i →
-      Enters k i (part C k) (i - (even-half (k .b) * (k .a / 2) + k .a * (k .b - even-half (k .b))))
+  pub c-enters : q ≡ part C k → e * (k .a / 2) + k .a * (k .b - e) ≤ i → Enters k i q (i - (e * (k .a / 2) + k .a * (k .b - e)))
   unfolding parts-of part
-  c-enters m =
+  c-enters is m =
       let sum = u-sum (k .a) (k .b) (even-half (k .b)) (u-lengths k (inside .sized) c .1) refl in
-      enters k inside (part A k ∷ part B k ∷ []) (part C k) [] (parts-are k UCut c) i (i - (even-half (k .b) * (k .a / 2) + k .a * (k .b - even-half (k .b))))
-      (omega arith) (omega arith)
+      let from = rw half at m in
+      subst⁻¹ (λ (q : Block). Enters k i q (i - (e * (k .a / 2) + k .a * (k .b - e)))) is
+      (enters k inside (part A k ∷ part B k ∷ []) (part C k) [] (parts-are k UCut c) i (i - (e * (k .a / 2) + k .a * (k .b - e)))
+      (rw half (omega arith)) (rw half (omega arith)))
 
 -- a straight block's squares, as the two bits give them
 pub run-stepped : (k : Placed) (i there blocks : ℕ) → there ≡ stepped-to (k .along) i (k .back)

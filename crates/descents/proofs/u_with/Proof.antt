@@ -1,11 +1,7 @@
 -- `descents::u_with` meets its contract: each part has the numbers from the sum of those before it up to its own sum.
 use borrow.Author.Needs.{needs}
-use mathlib.Core.Path.{sym, subst, subst⁻¹}
-use Prim.Native.Nat.{ℕ, _+_, _-_, _*_, _/_, _≤_, _<_}
 use native.Mathlib.Omega.{arith}
-use Rattle.division.specs.Division.{Block, B, C, part}
 use Rattle.division.specs.Forms.{block}
-use Rattle.descents.specs.Descents.{Enters}
 use Rattle.descents.proofs.PartWithNumber.{block-sums, a-enters, b-enters, c-enters}
 use Rattle.descents.proofs.u_with.Statement.{statement}
 use Rattle.descents.proofs.u_with.Tie as tie
@@ -22,11 +18,9 @@ returns : tie.Need-returns
 returns c =
     let half = c .before .before .before in
     let start = half .before in
-    let i = start .args .i in
     let e = half .even-half in
-    let k = start .args .k in
-    subst (λ (q : Block). Enters (block k) i q i) (sym (c .part-a .ensures))
-    (a-enters (block k) i (start .pre .0) (start .pre .1) (start .pre .2) (subst (λ (n : ℕ). i < n * (k .a / 2)) (e .ensures) (c .before .if1 .taken)))
+    a-enters (block (start .args .k)) (start .args .i) (start .pre .0) (start .pre .1) (start .pre .2) (e .result) (e .ensures)
+    (c .part-a .ensures) (c .before .if1 .taken)
 
 sub-to-c : tie.Need-sub-to-c
 sub-to-c c =
@@ -56,12 +50,8 @@ returns-2 c =
     let half = first-test .before .before in
     let start = half .before in
     let e = half .even-half in
-    let k = start .args .k in
-    let i = start .args .i in
-    let m = k .a / 2 in
-    subst (λ (q : Block). Enters (block k) i q (i - e .result * m)) (sym (c .part-b .ensures))
-    (subst⁻¹ (λ (n : ℕ). n * m ≤ i → i < n * m + k .a * (k .b - n) → Enters (block k) i (part B (block k)) (i - n * m)) (e .ensures)
-    (b-enters (block k) i (start .pre .0) (start .pre .1) (start .pre .2)) (first-test .if1 .left) (c .before .if2 .taken))
+    b-enters (block (start .args .k)) (start .args .i) (start .pre .0) (start .pre .1) (start .pre .2) (e .result) (e .ensures)
+    (c .part-b .ensures) (first-test .if1 .left) (c .before .if2 .taken)
 
 part-c-requires : tie.Need-part-c-requires
 part-c-requires c κs = search needs
@@ -71,12 +61,8 @@ returns-3 c =
     let half = c .before .before .before .before .before .before in
     let start = half .before in
     let e = half .even-half in
-    let k = start .args .k in
-    let i = start .args .i in
-    let m = k .a / 2 in
-    subst (λ (q : Block). Enters (block k) i q (i - (e .result * m + k .a * (k .b - e .result)))) (sym (c .part-c .ensures))
-    (subst⁻¹ (λ (n : ℕ). n * m + k .a * (k .b - n) ≤ i → Enters (block k) i (part C (block k)) (i - (n * m + k .a * (k .b - n)))) (e .ensures)
-    (c-enters (block k) i (start .pre .0) (start .pre .1) (start .pre .2)) (c .before .if2 .left))
+    c-enters (block (start .args .k)) (start .args .i) (start .pre .0) (start .pre .1) (start .pre .2) (e .result) (e .ensures)
+    (c .part-c .ensures) (c .before .if2 .left)
 
 pub u-with-spec : {M : Type 1} → statement M
 u-with-spec =
