@@ -111,21 +111,28 @@ module _ (w h : ℕ) (a : 1 ≤ w) (b : 1 ≤ h) (limit : w * h < past-32-bits) 
   whole-checked : judged 0 due t ≡ verdict (w * h) least
   whole-checked = first-wrong due t (w * h) (due-length w h a b kind) size small least below some
 
--- the verdict on a table that fits, from the least wrong place of a walk over the whole area
-module _ (w h : ℕ) (kind : Bool) (t : List ℕ) (fits : Fits w h t (whole w h) 0) (k : Block) (is : k ≡ whole w h) (none : ℕ)
-    (none-is : none ≡ wrong-packed (w * h) 0) (least : ℕ) (least-is : least ≡ checked kind w t k 0 none) where
-  verdict-is : verdict (w * h) least ≡ judged 0 (due-by kind w h) t
-  unfolding whole
-  verdict-is =
-      let sides = fits .inside .sized in
-      sym
-      (whole-checked w h (sides .run) (sides .side) (squares-fit fits) kind t (fits .size)
-      ∙ ap (verdict (w * h)) (sym (least-is ∙ ap₂ (λ j none. checked kind w t j 0 none) is none-is)))
+-- What a walk over the whole area says of a table that fits: none, n as a place, and the least wrong place that was found give the verdict that is due.
+pub record Verdict (n none least : ℕ) (due : List ℕ) : Type 0 where
+  pub none-is : none ≡ wrong-packed n 0
+  pub is : verdict n least ≡ due
 
-  pub right-is : least ≡ none → answered (0 ∷ 0 ∷ 0 ∷ []) ≡ answered (judged 0 (due-by kind w h) t)
-  right-is e = ap answered (sym (rw (eq-eqb least (wrong-packed (w * h) 0) (e ∙ none-is))) ∙ verdict-is)
+pub verdict-is : (w h : ℕ) (kind : Bool) (t : List ℕ) → Fits w h t (whole w h) 0 → {k : Block} → k ≡ whole w h → {none : ℕ} → none ≡ wrong-packed (w * h) 0
+    → {least : ℕ} → least ≡ checked kind w t k 0 none → Verdict (w * h) none least (judged 0 (due-by kind w h) t)
+unfolding whole
+verdict-is w h kind t fits is none-is least-is =
+    let sides = fits .inside .sized in
+    record {
+      none-is = none-is;
+      is = sym
+          (whole-checked w h (sides .run) (sides .side) (squares-fit fits) kind t (fits .size)
+          ∙ ap (verdict (w * h)) (sym (least-is ∙ ap₂ (λ j none. checked kind w t j 0 none) is none-is)));
+    }
 
-  pub wrong-is : (least ≡ none → ⊥) → (r : Wrong) → r ≡ wrong-unpacked least → answered (1 ∷ r .place ∷ r .due ∷ []) ≡ answered (judged 0 (due-by kind w h) t)
-  wrong-is e r read =
-      ap (λ r. answered (wrong-told r)) read
-      ∙ ap answered (sym (rw (ne-eqb least (wrong-packed (w * h) 0) (λ z. e (z ∙ sym none-is)))) ∙ verdict-is)
+-- So it is told: that no place is wrong, or which one.
+module _ {n none least : ℕ} {due : List ℕ} (v : Verdict n none least due) where
+  pub right-is : least ≡ none → answered (0 ∷ 0 ∷ 0 ∷ []) ≡ answered due
+  right-is e = ap answered (sym (rw (eq-eqb least (wrong-packed n 0) (e ∙ v .none-is))) ∙ v .is)
+
+  pub wrong-is : (least ≡ none → ⊥) → {r : Wrong} → r ≡ wrong-unpacked least → answered (1 ∷ r .place ∷ r .due ∷ []) ≡ answered due
+  wrong-is e read =
+      ap (λ r. answered (wrong-told r)) read ∙ ap answered (sym (rw (ne-eqb least (wrong-packed n 0) (λ z. e (z ∙ sym (v .none-is))))) ∙ v .is)

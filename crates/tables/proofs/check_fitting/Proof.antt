@@ -1,8 +1,10 @@
 -- `tables::check_fitting` meets its contract: what the least wrong place of the walk over the whole area says.
 use borrow.Author.Needs.{needs}
+use Prim.Native.Nat.{_*_}
 use Rattle.leaves.proofs.Entries.{squares-fit}
 use Rattle.tables.proofs.Whole.{block-fits}
-use Rattle.tables.proofs.Judged.{right-is, wrong-is}
+use Rattle.tables.specs.Tables.{judged, due-by}
+use Rattle.tables.proofs.Judged.{Verdict, verdict-is, right-is, wrong-is}
 use Rattle.tables.proofs.check_fitting.Statement.{statement}
 use Rattle.tables.proofs.check_fitting.Tie as tie
 
@@ -14,28 +16,24 @@ check-block-requires c κs =
     let start = c .before .before .before .before in
     block-fits (start .args .area .w) (start .args .area .h) (start .args .table .now) (start .pre) _ (c .whole-block .ensures)
 
-returns : tie.Need-returns
-returns c =
-    let checked = c .before in
+-- the walk's result, as a verdict
+found : (checked : tie.After-check-block) →
+    let block = checked .before in
+    let asked = block .before .before .before .before .args in
+    Verdict (asked .area .w * asked .area .h) (block .before .pack-wrong .result) (checked .check-block .result)
+    (judged 0 (due-by (asked .by-square) (asked .area .w) (asked .area .h)) (asked .table .now))
+found checked =
     let block = checked .before in
     let start = block .before .before .before .before in
     let asked = start .args in
-    let none = block .before .pack-wrong in
-    let least = checked .check-block in
-    right-is (asked .area .w) (asked .area .h) (asked .by-square) (asked .table .now) (start .pre) _ (block .whole-block .ensures) (none .result)
-    (none .ensures) (least .result) (least .ensures) (c .if1 .taken)
+    verdict-is (asked .area .w) (asked .area .h) (asked .by-square) (asked .table .now) (start .pre) (block .whole-block .ensures)
+    (block .before .pack-wrong .ensures) (checked .check-block .ensures)
+
+returns : tie.Need-returns
+returns c = right-is (found (c .before)) (c .if1 .taken)
 
 returns-2 : tie.Need-returns-2
-returns-2 c =
-    let checked = c .before .before in
-    let block = checked .before in
-    let start = block .before .before .before .before in
-    let asked = start .args in
-    let none = block .before .pack-wrong in
-    let least = checked .check-block in
-    wrong-is (asked .area .w) (asked .area .h) (asked .by-square) (asked .table .now) (start .pre) _ (block .whole-block .ensures) (none .result)
-    (none .ensures) (least .result) (least .ensures) (c .before .if1 .left) (c .unpack-wrong .result)
-    (c .unpack-wrong .ensures)
+returns-2 c = wrong-is (found (c .before .before)) (c .before .if1 .left) (c .unpack-wrong .ensures)
 
 pub check-fitting-spec : {M : Type 1} → statement M
 check-fitting-spec =
