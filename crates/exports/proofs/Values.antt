@@ -48,14 +48,14 @@ pub told : (n : ℕ) {A : Type 0} (figures : A → Figures) (s : List ℕ) {is c
 told n figures s e r p last q = (p ∙ ap (λ a. figures a .refusal) (sym e), q ∙ ap (λ a. figures a .values ++ drop n s) (sym e))
 
 -- An answer's figures, as a call returns and writes them, are the figures that are due; and those of the case that a lookup's answer is.
-pub answer : (n : ℕ) {f g : Figures} (s : List ℕ) → n ≤ length s → g ≡ f → (r : ℕ) → r ≡ g .refusal → (last : List ℕ) → last ≡ g .values ++ drop n s
+pub answer : (n : ℕ) {f g : Figures} (s : List ℕ) → n ≤ length s → g ≡ f → {r : ℕ} {last : List ℕ} → (r ≡ g .refusal) × (last ≡ g .values ++ drop n s)
     → (r ≡ returned n f s) × (last ≡ written n f s)
-answer n s l e r p last q = rw (le-leb n (length s) l) (told n (λ f. f) s (sym e) r p last q)
+answer n s l e {r} {last} both = rw (le-leb n (length s) l) (told n (λ f. f) s (sym e) r (both .0) last (both .1))
 
 pub found : (n : ℕ) {A : Type 0} (figures : A → Figures) {f : Figures} (s : List ℕ) → n ≤ length s → {is case : A} → is ≡ case → figures is ≡ f
     → (r : ℕ) → r ≡ figures case .refusal → (last : List ℕ) → last ≡ figures case .values ++ drop n s
     → (r ≡ returned n f s) × (last ≡ written n f s)
-found n figures s l e due r p last q = answer n s l (ap figures (sym e) ∙ due) r p last q
+found n figures s l e due r p last q = answer n s l (ap figures (sym e) ∙ due) (p, q)
 
 -- A fill, by the list that is due: its slice for the count is too short, and the table is kept; or it is not.
 module _ (w h : ℕ) (due : ℕ → ℕ → List ℕ) (table slice : List ℕ) where
@@ -64,11 +64,11 @@ module _ (w h : ℕ) (due : ℕ → ℕ → List ℕ) (table slice : List ℕ) w
   fill-short l = rw (lt-leb 1 (length slice) l) (refl, (refl, refl))
 
   pub fill-told : 1 ≤ length slice → {g : Figures} → g ≡ fill w h table → (left : List ℕ) → left ≡ unless-refused (fill w h table) (due w h) table
-      → (r : ℕ) → r ≡ g .refusal → (last : List ℕ) → last ≡ g .values ++ drop 1 slice
+      → {r : ℕ} {last : List ℕ} → (r ≡ g .refusal) × (last ≡ g .values ++ drop 1 slice)
       → (r ≡ returned 1 (fill w h table) slice) × ((last ≡ written 1 (fill w h table) slice) × (left ≡ filled (fill w h table) (due w h) table slice))
-  fill-told l e left f r p last q =
-      let both = told 1 (λ g. g) slice (sym e) r p last q in
-      rw (le-leb 1 (length slice) l) (both .0, (both .1, f))
+  fill-told l e left f {r} {last} both =
+      let due-told = told 1 (λ g. g) slice (sym e) r (both .0) last (both .1) in
+      rw (le-leb 1 (length slice) l) (due-told .0, (due-told .1, f))
 
 -- What the clerk hands back, as figures, is what is due of a clerk under the caller's area.
 abbrev pub shown-under : Area → Reply → Figures

@@ -4,15 +4,9 @@ use Rattle.exports.proofs.Values.{set-two}
 use Rattle.exports.proofs.put_two.Statement.{statement}
 use Rattle.exports.proofs.put_two.Tie as tie
 
-slice-write-result : tie.Need-slice-write-result
-slice-write-result c = search needs
-
-slice-write-result-2 : tie.Need-slice-write-result-2
-slice-write-result-2 c = search needs
-
 returns : tie.Need-returns
 returns c = set-two (c .args .result .now) (c .args .x) (c .args .y) (c .pre)
 
 pub put-two-spec : {M : Type 1} → statement M
 put-two-spec = tie.close
-    (tie.spec slice-write-result slice-write-result-2 (λ c. search needs) returns)
+    (tie.spec (λ c. search needs) (λ c. search needs) (λ c. search needs) returns)

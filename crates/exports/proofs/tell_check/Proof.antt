@@ -6,15 +6,6 @@ use Rattle.exports.proofs.Values.{told}
 use Rattle.exports.proofs.tell_check.Statement.{statement}
 use Rattle.exports.proofs.tell_check.Tie as tie
 
-put-three-requires : tie.Need-put-three-requires
-put-three-requires c κs = search needs
-
-put-three-requires-2 : tie.Need-put-three-requires-2
-put-three-requires-2 c κs = search needs
-
-put-three-requires-3 : tie.Need-put-three-requires-3
-put-three-requires-3 c κs = search needs
-
 returns : tie.Need-returns
 returns c =
     let known = c .before .before .before .before in
@@ -34,5 +25,5 @@ returns-3 c =
 pub tell-check-spec : {M : Type 1} → statement M
 tell-check-spec =
     tie.close
-    (tie.spec (λ c. search needs) put-three-requires (λ c. search needs) put-three-requires-2 (λ c. search needs) put-three-requires-3 (λ c κs. search needs)
-    (λ c. search needs) returns (λ c. search needs) returns-2 (λ c. search needs) returns-3)
+    (tie.spec (λ c. search needs) (λ c κs. search needs) (λ c. search needs) (λ c κs. search needs) (λ c. search needs) (λ c κs. search needs)
+    (λ c κs. search needs) (λ c. search needs) returns (λ c. search needs) returns-2 (λ c. search needs) returns-3)

@@ -6,12 +6,6 @@ use Rattle.exports.proofs.Values.{set-one, told}
 use Rattle.exports.proofs.tell_fill.Statement.{statement}
 use Rattle.exports.proofs.tell_fill.Tie as tie
 
-slice-write-blocks : tie.Need-slice-write-blocks
-slice-write-blocks c = search needs
-
-slice-write-blocks-2 : tie.Need-slice-write-blocks-2
-slice-write-blocks-2 c = search needs
-
 returns : tie.Need-returns
 returns c =
     let known = c .before in
@@ -29,5 +23,5 @@ returns-2 c =
 pub tell-fill-spec : {M : Type 1} → statement M
 tell-fill-spec =
     tie.close
-    (tie.spec (λ c. search needs) slice-write-blocks (λ c. search needs) slice-write-blocks-2 (λ c κs. search needs)
+    (tie.spec (λ c. search needs) (λ c. search needs) (λ c. search needs) (λ c. search needs) (λ c κs. search needs)
     (λ c. search needs) returns (λ c. search needs) returns-2)
