@@ -1,6 +1,7 @@
 // guards: the library's C functions with every slice that they are lent laid against memory that may not be touched, once up to its end and once from
 // its beginning on. What a call may not alter lies in pages that can only be read: a line, a table under a check or a refused fill, a slice that is too
-// short. Each answer is held to the independent program's. A touch of anything else ends the program, which says what was asked.
+// short. Where a check by number finds one of a table's first places wrong, all places behind them lie in such memory. Each answer is held to the independent
+// program's. A touch of anything else ends the program, which says what was asked.
 mod expected;
 #[allow(dead_code)] // whole traversals are not needed here
 mod independent;
@@ -231,6 +232,25 @@ fn large_area(room: &Room, w: u32, h: u32, lengths: &[usize]) {
     }
 }
 
+// Checks by number of a table of which only the first places may be read, and one of these is wrong: the check ends there, whatever would lie behind.
+fn ends_where_wrong(room: &Room, w: u32, h: u32, places: usize) {
+    let place = |number| {
+        let square = independent::number_to_square(w as i64, h as i64, number as i64).expect("a number of the area");
+        (square[1] * w as i64 + square[0]) as u32
+    };
+    let right: Vec<u32> = (0..places).map(place).collect();
+    for wrong in 0..places {
+        let mut table = right.clone();
+        table[wrong] ^= 1;
+        let answer = Ok(vec![1, wrong as i64, right[wrong] as i64]);
+        let lent = |result, length, _| {
+            let first = room.lay(&table, Guard::Behind, PROT_READ);
+            unsafe { raw::uvalinda_check_by_number(w, h, first, w as usize * h as usize, result, length) }
+        };
+        room.ask(&format!("check of {w} by {h}, place {wrong} wrong, {places} places to read"), 3, |length| due(&answer, 3, length), lent);
+    }
+}
+
 // Lines of every length up to 70 bytes and some longer, cut from right lines and from ones that go on for ever; then random lines, each under the area that
 // the one before it left.
 fn lines(room: &Room) {
@@ -268,6 +288,8 @@ fn main() {
     for (w, h) in [(65536, 1), (1, 65536), (65536, 65536), (u32::MAX, 1), (1, u32::MAX), (u32::MAX, u32::MAX), (0, 65536)] {
         large_area(&room, w, h, &[0, 1, 65_536]);
     }
+    ends_where_wrong(&room, 4_096, 4_096, 64);
+    ends_where_wrong(&room, 65_535, 65_535, 4);
     lines(&room);
     println!("guards: {} calls, and none touches what it was not lent", room.calls.get());
 }

@@ -1,6 +1,5 @@
--- What the promises across the boundary come to: filled tables hold what the lookups say; turned away, for every call by one law each, are one that leaves
--- its slice as it is, one that finds every slice too short, and a fill that leaves its table as it is. What is returned and what is left in each slice are
--- equations with definitions, so that two results are one by `two-equations` and `three-equations` of terms.
+-- What the promises across the boundary come to: filled tables hold what the lookups say, and calls that leave a slice or a table as it is, or find every
+-- slice too short, are turned away. Two results that meet a promise are one by `two-equations` and `three-equations` of terms.
 use mathlib.Core.Bool.{Bool, true}
 use mathlib.Core.List.{List, [], _∷_, _++_}
 use mathlib.Core.Path.{_≡_, refl, sym, ap, ap₂, _∙_}

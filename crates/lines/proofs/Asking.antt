@@ -1,6 +1,5 @@
--- What a line asks, seen from its bytes: the line that a word and numbers in decimal spell asks with that word for those numbers, and no other line does.
--- A line of a known shape with a field that is no number is refusal 5, and one of no known shape 6. The fields of a line with spaces between them are the
--- line, and each number has one text.
+-- What a line asks, seen from its bytes: the line that a word and numbers in decimal spell asks with that word for those numbers, and no other line does,
+-- since a line is its fields with spaces between them and each number has one text. What has a wrong field is refusal 5, what has no known shape 6.
 use mathlib.Core.Bool.{Bool, true, false, not, cond, _&&_, _||_, and-eq-true-iff}
 use mathlib.Core.List.{List, [], _∷_, _++_}
 use mathlib.Core.Path.{_≡_, refl, sym, ap, ap₂, subst, subst⁻¹, _∙_}

@@ -123,7 +123,7 @@ printed-begun n = by (ltb n 10) refl
     by false e = well-begun-from (decimal n) (prints n .begun (let large = ltb-false n 10 e in omega arith))
 
 -- What is printed for a number, up to the largest of the rule, is read as that number.
-pub read-back : (n : ℕ) → n ≤ 4294967295 → numeral (decimal n) ≡ Value n
+pub read-back : (n : ℕ) → n ≤ largest-number → numeral (decimal n) ≡ Value n
 unfolding numeral is-number
 read-back n l =
     let p = prints n in
@@ -139,7 +139,7 @@ pub record Reads (f : List ℕ) (n : ℕ) : Type 0 where
   pub digits : all-digits f ≡ true
   pub begun : well-begun f ≡ true
   pub valued : value f ≡ n
-  pub most : n ≤ 4294967295
+  pub most : n ≤ largest-number
 
 pub reads : (f : List ℕ) (n : ℕ) → numeral f ≡ Value n → Reads f n
 unfolding numeral is-number
