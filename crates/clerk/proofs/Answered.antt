@@ -10,6 +10,7 @@ use Rattle.terms.specs.declared.Area.{Area}
 use Rattle.terms.specs.declared.Refusal.{Refusal}
 use Rattle.terms.specs.Terms.{accepted, area-refusal, refusal-number, answered, refused}
 use Rattle.terms.proofs.Laws.{limits, refusal-not-0}
+use Rattle.division.specs.Division.{whole, square-of}
 use Rattle.curve.specs.Lookups.{number-to-square, square-to-number, finish-square}
 use Rattle.lines.specs.declared.Request as Requests
 use Rattle.lines.specs.Lines.{AREA, N, S, request}
@@ -56,9 +57,12 @@ module _ (x y : ℕ) (most : x ≤ largest-number) (most′ : y ≤ largest-numb
   unfolding spec.reply
   square-without-area = ap (spec.reply-to NoArea) (square-spelt x y most most′)
 
--- "AREA w h n fx fy (n squares, finish square)", whatever was in force; and 1 for two numbers that are no area.
+-- "AREA w h n fx fy (n squares, finish square)", whatever was in force; and 1 for two numbers that are no area. "AREA lines print the new value": the square
+-- of number w·h - 1.
 module _ (clerk : Clerk) (w h : ℕ) where
-  pub area-replied : accepted w h ≡ true → spec.reply clerk (with-two AREA w h) ≡ spec.says spec.Area-set (w ∷ h ∷ (w * h) ∷ (w - 1) ∷ 0 ∷ [])
+  pub area-replied : accepted w h ≡ true
+      → spec.reply clerk (with-two AREA w h)
+      ≡ spec.says spec.Area-set (w ∷ h ∷ (w * h) ∷ square-of (whole w h) (w * h - 1) .x ∷ square-of (whole w h) (w * h - 1) .y ∷ [])
   unfolding spec.reply finish-square
   area-replied ok =
       let all = limits w h ok in

@@ -1,14 +1,16 @@
 -- Order lines worked by hand, as one table under one claim, which computes: those that document 01 gives under "Order lines", "Squares worked by hand" and
--- "Errors a good programmer makes here", and for each of its sentences on lines some of our own. Here stand refusals, by
--- their numbers and in their order, and the area in force after each line; what an answered line says is the call's own (`cell-replied`, `number-replied`).
+-- "Errors a good programmer makes here", and for each of its sentences on lines some of our own; and AREA lines with document 02's finish squares. Here stand
+-- refusals, by their numbers and in their order, and the area in force after each line; what a line N or S says is the call's own (`cell-replied`,
+-- `number-replied`), and so is the finish square of an area that is too large to list (`area-replied`).
 use mathlib.Core.Bool.{Bool, true, false, _&&_}
 use mathlib.Core.List.{List, [], _∷_, _++_}
 use Prim.Native.Nat.{ℕ}
 use Prim.Native.String.{String}
 use lib.Dec.{T, eqb}
-use lib.ListN.{replicate}
+use lib.ListN.{replicate, take}
 use Rattle.terms.specs.Terms.{accepted, area-refusal}
 use Rattle.terms.specs.Comparing.{same-numbers}
+use Rattle.division.specs.Division.{whole, choice, even-half, part, parts, parts-of, moved, against, row, curve-by, down, curve, square-of}
 use Rattle.curve.specs.Lookups.{number-to-square, square-to-number, finish-square}
 use Rattle.words.specs.Letters.{bytes}
 use Rattle.words.specs.Words.{all-digits, value-on, is-number, numeral, same-bytes}
@@ -25,8 +27,9 @@ pub data Case : Type 0 where
   stays : String → (refusal : ℕ) → Case
   -- under 3 by 4 a line is refused so, and no area is in force after it
   clears : String → (refusal : ℕ) → Case
-  -- whatever is in force, a line sets w by h, and its reply is AREA with these numbers
+  -- whatever is in force, a line sets w by h, and its reply is AREA with these numbers; or, of an area too large to list, with these before the finish square
   sets : String → (w h squares x y : ℕ) → Case
+  sets-large : String → (w h squares : ℕ) → Case
   -- under 3 by 4 a line of bytes, too many or too odd to write out, is refused so, and leaves that area, or none
   long-stays : List ℕ → (refusal : ℕ) → Case
   long-clears : List ℕ → (refusal : ℕ) → Case
@@ -43,11 +46,11 @@ is-refusal r s = by (s .word) (s .numbers)
     by Number numbers = false
     by Refused numbers = same-numbers numbers (r ∷ [])
 
-is-area : List ℕ → Said → Bool
-is-area due s = by (s .word) (s .numbers)
+is-area : (List ℕ → List ℕ) → List ℕ → Said → Bool
+is-area of due s = by (s .word) (s .numbers)
   where
     by : Word → List ℕ → Bool
-    by Area-set numbers = same-numbers numbers due
+    by Area-set numbers = same-numbers (of numbers) due
     by Cell numbers = false
     by Number numbers = false
     by Refused numbers = false
@@ -60,21 +63,28 @@ holds : ℕ → ℕ → Clerk → Bool
 holds w h NoArea = false
 holds w h (InForce area) = eqb (area .w) w && eqb (area .h) h
 
+-- a line sets w by h under every clerk of the table, and of what its reply says after AREA this part is due
+sets-so : String → (w h : ℕ) → (List ℕ → List ℕ) → List ℕ → Bool
+unfolding same-numbers is-area holds three-by-four reply after request shaped fields same-bytes numeral is-number all-digits value-on
+sets-so line w h of due =
+    is-area of due (reply NoArea (bytes line))
+    && is-area of due (reply three-by-four (bytes line))
+    && holds w h (after NoArea (bytes line))
+    && holds w h (after three-by-four (bytes line))
+
 right : Case → Bool
-unfolding same-numbers is-refusal is-area holds-none holds three-by-four reply after request shaped fields same-bytes numeral is-number all-digits value-on
+unfolding same-numbers is-refusal holds-none holds three-by-four reply after request shaped fields same-bytes numeral is-number all-digits value-on sets-so
 right (with-none line r) = is-refusal r (reply NoArea (bytes line)) && holds-none (after NoArea (bytes line))
 right (stays line r) = is-refusal r (reply three-by-four (bytes line)) && holds 3 4 (after three-by-four (bytes line))
 right (clears line r) = is-refusal r (reply three-by-four (bytes line)) && holds-none (after three-by-four (bytes line))
-right (sets line w h squares x y) =
-    is-area (w ∷ h ∷ squares ∷ x ∷ y ∷ []) (reply NoArea (bytes line))
-    && is-area (w ∷ h ∷ squares ∷ x ∷ y ∷ []) (reply three-by-four (bytes line))
-    && holds w h (after NoArea (bytes line))
-    && holds w h (after three-by-four (bytes line))
+right (sets line w h squares x y) = sets-so line w h (λ numbers. numbers) (w ∷ h ∷ squares ∷ x ∷ y ∷ [])
+right (sets-large line w h squares) = sets-so line w h (take 3) (w ∷ h ∷ squares ∷ [])
 right (long-stays line r) = is-refusal r (reply three-by-four line) && holds 3 4 (after three-by-four line)
 right (long-clears line r) = is-refusal r (reply three-by-four line) && holds-none (after three-by-four line)
 
 pub all-right : List Case → Bool
-unfolding right accepted area-refusal number-to-square square-to-number finish-square
+unfolding right accepted area-refusal number-to-square square-to-number finish-square square-of curve down parts parts-of part choice even-half whole moved
+    against row curve-by mathlib.Core.List.flatten
 all-right [] = true
 all-right (c ∷ cs) = right c && all-right cs
 
@@ -83,7 +93,13 @@ worked =
     -- "AREA w h n fx fy"; each length from 1 to 65,535
     sets "AREA 3 4" 3 4 12 2 0
     ∷ sets "AREA 1 1" 1 1 1 0 0
-    ∷ sets "AREA 65535 65535" 65535 65535 4294836225 65534 0
+    ∷ sets-large "AREA 65535 65535" 65535 65535 4294836225
+    -- "AREA lines print the new value"
+    ∷ sets "AREA 5 2" 5 2 10 3 0
+    ∷ sets "AREA 3 2" 3 2 6 1 0
+    ∷ sets "AREA 4 2" 4 2 8 3 0
+    ∷ sets "AREA 1 7" 1 7 7 0 6
+    -- "w or h is 0 or over 65,535"
     ∷ clears "AREA 0 4" 1
     ∷ clears "AREA 4 0" 1
     ∷ clears "AREA 65536 1" 1

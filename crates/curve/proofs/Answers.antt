@@ -2,7 +2,7 @@
 use mathlib.Core.Bool.{true, false}
 use mathlib.Core.List.{[], _∷_}
 use mathlib.Core.Path.{_≡_, ap}
-use Prim.Native.Nat.{ℕ, _-_, _*_, _≤_, _<_}
+use Prim.Native.Nat.{ℕ, _*_, _≤_, _<_}
 use native.Mathlib.Omega.{arith}
 use borrow.Author.Tests.{lt-ltb, le-ltb}
 use Rattle.terms.specs.declared.Refusal.{Refusal}
@@ -73,11 +73,6 @@ module _ (w h : ℕ) (yes : accepted w h ≡ true) where
   pub y-outside : (x y : ℕ) → x < w → h ≤ y → refused SquareOutside 2 ≡ square-to-number w h x y
   unfolding square-to-number
   y-outside x y l m = rw (yes, lt-ltb x w l, le-ltb y h m)
-
-  -- the finish square
-  pub finish-found : answered ((w - 1) ∷ 0 ∷ []) ≡ finish-square w h
-  unfolding finish-square
-  finish-found = rw yes
 
 module _ (w h : ℕ) (not-accepted : accepted w h ≡ false) (r : Refusal) (is : r ≡ area-refusal w h) where
   pub square-limit : (number : ℕ) → refused r 3 ≡ number-to-square w h number

@@ -1,5 +1,5 @@
--- Where the curve of an area ends: the square of its last number, in one of three ways. By induction over the blocks: a cut area ends where its last part
--- ends, and that part's lengths decide which way it is.
+-- Where the curve of an area ends: the square of its last number, in one of three ways; and so document 02's sentences on the finish square. By induction over
+-- the blocks: a cut area ends where its last part ends, and that part's lengths decide which way it is.
 use mathlib.Core.Bool.{Bool, true, false}
 use mathlib.Core.List.{[], _∷_}
 use mathlib.Core.Path.{_≡_, refl, sym, ap, ap₂, subst, _∙_}
@@ -8,8 +8,10 @@ use native.Mathlib.Nat.{add-sub-of-le, mul-le-mul}
 use native.Mathlib.Omega.{arith}
 use borrow.Author.Tests.{eqb-true, eqb-false}
 use lib.Dec.{eqb}
+use Rattle.terms.specs.Terms.{accepted, answered}
+use Rattle.terms.proofs.Laws.{limits, figure}
 use Rattle.division.specs.declared.Choice.the-variants.{LongCut, UCut}
-use Rattle.division.specs.Division.{square, Block, whole, even-half, First, Second, A, B, C, part, parts, parts-of, square-of}
+use Rattle.division.specs.Division.{Square, square, Block, whole, even-half, First, Second, A, B, C, part, parts, parts-of, square-of}
 use Rattle.division.specs.Division.Inside.{Sized}
 use Rattle.division.proofs.Rules.{All, Chosen, is-run, is-side, is-long, is-u, chosen, halves, parts-are}
 use Rattle.division.proofs.Cases.{induction}
@@ -17,6 +19,7 @@ use Rattle.division.proofs.Cuts.{long-areas, u-areas}
 use Rattle.division.proofs.Local.{seen-from, squares-of}
 use Rattle.division.proofs.Squares.{area-at-part, area-run-at, area-side-at}
 use Rattle.division.proofs.Walks.{half-small, half-large}
+use Rattle.curve.specs.Lookups.{finish-square}
 
 -- the three ways: up along a width of 1, one short of the corner, and at the corner
 pub data Ends (a b x y : ℕ) : Type 0 where
@@ -142,21 +145,87 @@ unfolding whole
 last-square w h x y lw lh e =
     induction Last (λ k sized below x y e. last-by k sized x y e below (chosen k sized)) (whole w h) (record { run = lw; side = lh }) x y e
 
--- Every area ends in one of the ways; so the finish square (w - 1, 0) is the last but for the first two of them, 1 by 1 aside.
-pub ends : (w h : ℕ) → 1 ≤ w → 1 ≤ h → (x : ℕ) × (y : ℕ) × Ends w h x y
-ends w h lw lh = by (eqb w 1) (eqb h 2) (eqb (w % 2) 1) refl refl refl
+-- height 2, by the width's parity
+pub low-ends : (w h : ℕ) → 2 ≤ w → h ≡ 2 → Ends w h (w - 1 - w % 2) 0
+low-ends w h more two = by (eqb (w % 2) 1) refl
   where
-    by : (one two odd : Bool) → eqb w 1 ≡ one → eqb h 2 ≡ two → eqb (w % 2) 1 ≡ odd → (x : ℕ) × (y : ℕ) × Ends w h x y
-    by true two odd p q r = (0, h - 1, up (eqb-true w 1 p) refl (omega arith))
-    by false true true p q r =
-        let more = eqb-false w 1 p in
-        let is = eqb-true (w % 2) 1 r in
-        (w - 2, 0, short (eqb-true h 2 q) (at-least-3 w is (omega arith)) is (let three = at-least-3 w is (omega arith) in omega arith) refl)
-    by false true false p q r =
-        let more = eqb-false w 1 p in
-        let is = eqb-false (w % 2) 1 r in
-        (w - 1, 0, corner (omega arith) (λ two. omega arith) (omega arith) refl)
-    by false false odd p q r =
+    by : (odd : Bool) → eqb (w % 2) 1 ≡ odd → Ends w h (w - 1 - w % 2) 0
+    by true r =
+        let odd = eqb-true (w % 2) 1 r in
+        let three = at-least-3 w odd more in
+        short two three odd (omega arith) refl
+    by false r =
+        let even = eqb-false (w % 2) 1 r in
+        corner more (λ is. omega arith) (omega arith) refl
+
+-- Every area ends in one of the ways.
+pub ends : (w h : ℕ) → 1 ≤ w → 1 ≤ h → (x : ℕ) × (y : ℕ) × Ends w h x y
+ends w h lw lh = by (eqb w 1) (eqb h 2) refl refl
+  where
+    by : (one two : Bool) → eqb w 1 ≡ one → eqb h 2 ≡ two → (x : ℕ) × (y : ℕ) × Ends w h x y
+    by true two p q = (0, h - 1, up (eqb-true w 1 p) refl (omega arith))
+    by false true p q = let more = eqb-false w 1 p in (w - 1 - w % 2, 0, low-ends w h (omega arith) (eqb-true h 2 q))
+    by false false p q =
         let more = eqb-false w 1 p in
         let other = eqb-false h 2 q in
         (w - 1, 0, corner (omega arith) (λ two. absurd (other two)) (omega arith) refl)
+
+-- The areas that end elsewhere than at (w - 1, 0): "width 1 with height above 1" and "odd width of 3 or more with height 2".
+pub data Elsewhere (w h : ℕ) : Type 0 where
+  narrow : w ≡ 1 → 1 < h → Elsewhere w h
+  low : 3 ≤ w → w % 2 ≡ 1 → h ≡ 2 → Elsewhere w h
+
+-- Document 02's sentences on the finish square of an area. The header and the bindings say the same.
+pub record Finish (w h : ℕ) : Type 0 where
+  -- "The finish square becomes the square of number w·h - 1."
+  pub last : finish-square w h ≡ answered (square-of (whole w h) (w * h - 1) .x ∷ square-of (whole w h) (w * h - 1) .y ∷ [])
+  -- "for width 1 with height above 1, where it is (0, h - 1)"
+  pub of-narrow : w ≡ 1 → 1 < h → finish-square w h ≡ answered (0 ∷ (h - 1) ∷ [])
+  -- "and for odd width of 3 or more with height 2, where it is (w - 2, 0)"
+  pub of-low : 3 ≤ w → w % 2 ≡ 1 → h ≡ 2 → finish-square w h ≡ answered ((w - 2) ∷ 0 ∷ [])
+  -- "It differs from (w - 1, 0) for" both,
+  pub differs : Elsewhere w h → finish-square w h ≡ answered ((w - 1) ∷ 0 ∷ []) → ⊥
+  -- and "it differs nowhere else".
+  pub nowhere-else : (Elsewhere w h → ⊥) → finish-square w h ≡ answered ((w - 1) ∷ 0 ∷ [])
+
+-- a square at which an area ends is (w - 1, 0) in every area but those
+module _ (w h x y : ℕ) where
+  not-corner : Ends w h x y → Elsewhere w h → x ≡ w - 1 → y ≡ 0 → ⊥
+  not-corner (up one p q) (narrow one′ more) r s = omega arith
+  not-corner (up one p q) (low three odd two) r s = omega arith
+  not-corner (short two three odd p q) e r s = omega arith
+  not-corner (corner more even p q) (narrow one more′) r s = omega arith
+  not-corner (corner more even p q) (low three odd two) r s = let other = even two in omega arith
+
+  at-corner : 1 ≤ h → Ends w h x y → (Elsewhere w h → ⊥) → (x ≡ w - 1) × (y ≡ 0)
+  at-corner least (up one p q) not = by (eqb h 1) refl
+    where
+      by : (t : Bool) → eqb h 1 ≡ t → (x ≡ w - 1) × (y ≡ 0)
+      by true t = let flat = eqb-true h 1 t in (omega arith, omega arith)
+      by false t = let high = eqb-false h 1 t in absurd (not (narrow one (omega arith)))
+  at-corner least (short two three odd p q) not = absurd (not (low three odd two))
+  at-corner least (corner more even p q) not = (omega arith, q)
+
+-- The finish square of every accepted area is as document 02 says.
+module _ (w h : ℕ) (yes : accepted w h ≡ true) where
+  pub finish-found : (x y : ℕ) → Ends w h x y → answered (x ∷ y ∷ []) ≡ finish-square w h
+  unfolding finish-square
+  finish-found x y e =
+      let all = limits w h yes in
+      rw yes (ap (λ (s : Square). answered (s .x ∷ s .y ∷ [])) (sym (last-square w h x y (all .w-least) (all .h-least) e)))
+
+  pub finish-is : Finish w h
+  unfolding finish-square
+  finish-is =
+      let all = limits w h yes in
+      let end = ends w h (all .w-least) (all .h-least) in
+      let there = finish-found (end .0) (end .1) (end .2) in
+      record {
+        last = rw yes;
+        of-narrow = λ one more. sym (finish-found 0 (h - 1) (up one refl (omega arith)));
+        of-low = λ three odd two. sym (finish-found (w - 2) 0 (short two three odd (omega arith) refl));
+        differs = λ other e. not-corner w h (end .0) (end .1) (end .2) other (ap (figure 0) (there ∙ e)) (ap (figure 1) (there ∙ e));
+        nowhere-else = λ not.
+            let at = at-corner w h (end .0) (end .1) (all .h-least) (end .2) not in
+            sym there ∙ ap₂ (λ x y. answered (x ∷ y ∷ [])) (at .0) (at .1);
+      }

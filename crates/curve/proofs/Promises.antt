@@ -1,9 +1,10 @@
--- What the lookups' promises come to: each accepted number and square is answered, each lookup undoes the other with the same count, the count
--- meets demand 3, an answer that meets a promise is the only one, and the wrong programs that a promise turns away.
+-- What the lookups' promises come to: each accepted number and square is answered, each lookup undoes the other with the same count, the count meets demand 3,
+-- the finish square is the last number's, an answer that meets a promise is the only one, and the wrong programs that a promise turns away.
 use mathlib.Core.Bool.{Bool, true, false, cond}
 use mathlib.Core.List.{List, [], _∷_}
 use mathlib.Core.Path.{_≡_, refl, sym, ap, ap₂, subst, subst⁻¹, _∙_}
-use Prim.Native.Nat.{ℕ, _*_, _^_, _≤_, _<_}
+use Prim.Native.Nat.{ℕ, _-_, _*_, _^_, _≤_, _<_}
+use native.Mathlib.Nat.{mul-le-mul}
 use native.Mathlib.Omega.{arith}
 use borrow.Author.Tests.{lt-ltb, le-leb, ltb-true, ltb-false}
 use lib.Dec.{ltb, eqb, lit<, lit≤}
@@ -22,7 +23,8 @@ use Rattle.curve.specs.declared.SquareAnswer as SquareAnswers
 use Rattle.curve.specs.declared.NumberAnswer as NumberAnswers
 use Rattle.curve.specs.declared.FinishAnswer as FinishAnswers
 use Rattle.curve.proofs.Answers.{number-outside, square-limit, x-outside, y-outside, number-limit}
-use Rattle.curve.specs.Lookups.{square-figures, number-figures, finish-figures, number-to-square, square-to-number}
+use Rattle.curve.proofs.Finish.{finish-is}
+use Rattle.curve.specs.Lookups.{square-figures, number-figures, finish-figures, number-to-square, square-to-number, finish-square}
 
 -- Every number of an accepted area has its square, and every square its number; no lookup ever meets refusal 9.
 module _ (w h : ℕ) (yes : accepted w h ≡ true) where
@@ -117,6 +119,27 @@ count-bound w h n x y k e l =
 
 pub square-count-bound : (w h x y n k : ℕ) → square-to-number w h x y ≡ answered (n ∷ k ∷ []) → 1 < k → 3 ^ k ≤ 2 ^ k * (w * h)
 square-count-bound w h x y n k e l = count-bound w h n x y k (square-back w h x y n k e) l
+
+-- "The finish square becomes the square of number w·h - 1", of the calls: the lookup of that number is answered in every accepted area, and with that square.
+pub record Last (w h : ℕ) : Type 0 where
+  pub x : ℕ
+  pub y : ℕ
+  pub blocks : ℕ
+  pub asked : number-to-square w h (w * h - 1) ≡ answered (x ∷ y ∷ blocks ∷ [])
+  pub finish : finish-square w h ≡ answered (x ∷ y ∷ [])
+
+pub finish-last : (w h : ℕ) → accepted w h ≡ true → Last w h
+finish-last w h ok =
+    let all = limits w h ok in
+    let some : 1 * 1 ≤ w * h = mul-le-mul (all .w-least) (all .h-least) in
+    let s = square-of (whole w h) (w * h - 1) in
+    record {
+      x = s .x;
+      y = s .y;
+      blocks = blocks-holding (whole w h) s;
+      asked = number-answered w h ok (w * h - 1) (omega arith);
+      finish = finish-is w h ok .last;
+    }
 
 -- Two answers that meet a promise are one: an answer can be told from its figures.
 square-from : Figures → SquareAnswers.SquareAnswer

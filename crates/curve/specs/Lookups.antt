@@ -1,4 +1,5 @@
--- What a lookup says, for every area, number and square: document 01, "What a lookup and a table say" and "Refusal numbers", as figures on paper.
+-- What a lookup says, for every area, number and square: document 01, "What a lookup and a table say" and "Refusal numbers", as figures on paper. The finish
+-- square is that of document 02, order 1.
 use mathlib.Core.Bool.{_&&_, cond}
 use mathlib.Core.List.{List, [], _∷_}
 use Prim.Native.Nat.{ℕ, _-_, _*_}
@@ -29,9 +30,12 @@ square-to-number w h x y =
     let n = blocks-holding (whole w h) (square x y) in
     on-area w h 2 (cond (ltb x w && ltb y h) (unless-deep n (number-of (whole w h) (square x y) ∷ n ∷ []) 2) (refused SquareOutside 2))
 
--- "finish square: (w - 1, 0), after document 002, section 3.2; none". It needs no descent, so that 9 is not one of its refusals.
+-- "The finish square becomes the square of number w·h - 1." Document 01: "none" of the blocks are reported. Its lengths tell the square without a descent, so
+-- that 9 is not one of its refusals.
 unfoldable pub finish-square : (w h : ℕ) → Figures
-finish-square w h = on-area w h 2 (answered ((w - 1) ∷ 0 ∷ []))
+finish-square w h =
+    let s = square-of (whole w h) (w * h - 1) in
+    on-area w h 2 (answered (s .x ∷ s .y ∷ []))
 
 -- The figures of each answer: "the number, all else 0" where it is refused.
 abbrev pub square-figures : SquareAnswers.SquareAnswer → Figures

@@ -1,12 +1,13 @@
 -- Calls worked by hand, as one table under one claim, which computes: document 01, "Refusal numbers", with the order of the refusals and "the number, all else
--- 0", its cases "65,536 by 1 and 0 by 5: refusal 1", and the finish square. The squares, numbers and counts of answered lookups are worked in the
--- division's tables.
+-- 0", its cases "65,536 by 1 and 0 by 5: refusal 1"; and the finish squares of document 02, order 1. The squares, numbers and counts of answered lookups are
+-- worked in the division's tables.
 use mathlib.Core.Bool.{Bool, true, _&&_}
 use mathlib.Core.List.{List, [], _∷_}
 use Prim.Native.Nat.{ℕ}
 use lib.Dec.{T}
 use Rattle.terms.specs.Terms.{accepted, area-refusal}
 use Rattle.terms.specs.Comparing.{same-numbers, same-figures}
+use Rattle.division.specs.Division.{whole, choice, even-half, part, parts, parts-of, moved, against, row, curve-by, down, curve, square-of}
 use Rattle.curve.specs.Lookups.{unless-deep, number-to-square, square-to-number, finish-square}
 
 -- A line of the table, of a w by h area.
@@ -64,12 +65,19 @@ worked =
     ∷ square-refused 4 3 0 3 2
     ∷ square-refused 65535 65535 65535 0 2
     ∷ square-refused 65535 65535 0 4294967295 2
-    -- "finish square: (w - 1, 0)"
-    ∷ finishes-at 3 4 2 0
+    -- "A van went to (4, 0) for a 5 by 2 area and the crew came out at (3, 0)", and document 02's other areas, each with its neighbours
+    ∷ finishes-at 5 2 3 0
+    ∷ finishes-at 3 2 1 0
+    ∷ finishes-at 9 2 7 0
+    ∷ finishes-at 1 2 0 1
+    ∷ finishes-at 1 7 0 6
     ∷ finishes-at 1 1 0 0
-    ∷ finishes-at 1 5 0 0
-    ∷ finishes-at 5 2 4 0
-    ∷ finishes-at 65535 65535 65534 0
+    ∷ finishes-at 2 2 1 0
+    ∷ finishes-at 4 2 3 0
+    ∷ finishes-at 3 1 2 0
+    ∷ finishes-at 3 3 2 0
+    ∷ finishes-at 2 5 1 0
+    ∷ finishes-at 3 4 2 0
     -- "a descent would open a 65th block"
     ∷ deep-answered 1
     ∷ deep-answered 64
@@ -77,5 +85,6 @@ worked =
     ∷ []
 
 pub worked-right : T (all-right worked)
-unfolding worked all-right right same-figures same-numbers number-to-square square-to-number finish-square accepted area-refusal
+unfolding worked all-right right same-figures same-numbers number-to-square square-to-number finish-square accepted area-refusal square-of curve down parts
+    parts-of part choice even-half whole moved against row curve-by mathlib.Core.List.flatten
 worked-right = tt

@@ -87,13 +87,23 @@ pub fn square_to_number(area: Area, x: u32, y: u32) -> NumberAnswer
     number_unless_deep(searches::number_at(w, h, x, y))
 }
 
-// The finish square (w - 1, 0), as document 01 fixes it; the curve need not end there.
+// The finish square, which is the square of the last number. The area's lengths tell it, so that no block has to be opened.
 pub fn finish_square(area: Area) -> FinishAnswer
     ensures { λ r. ⌜ finish-figures r ≡ finish-square (area .w) (area .h) ⌝ }
 {
     let w = area.w;
+    let h = area.h;
     if !terms::accepts(area) {
         return FinishAnswer::Refused(terms::area_refusal(area));
+    }
+    if w == 1 {
+        return FinishAnswer::Found { x: 0, y: h - 1 };
+    }
+    if h == 2 {
+        return FinishAnswer::Found {
+            x: w - 1 - w % 2,
+            y: 0,
+        };
     }
     FinishAnswer::Found { x: w - 1, y: 0 }
 }

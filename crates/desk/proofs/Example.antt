@@ -5,6 +5,7 @@ use mathlib.Core.Path.{_≡_, refl, sym, ap, ap₂, _∙_}
 use Prim.Native.Nat.{ℕ, _+_}
 use Prim.Native.String.{String}
 use native.Mathlib.Nat.{le-refl}
+use native.Mathlib.Omega.{arith}
 use lib.Dec.{leb, eqb, lit<}
 use lib.ListN.{drop}
 use Rattle.terms.specs.declared.Refusal.the-variants.{NumberOutside}
@@ -13,6 +14,7 @@ use Rattle.division.specs.Division.{Square, whole, blocks-holding}
 use Rattle.division.specs.Division.Worked.{eighth, eighth-held}
 use Rattle.curve.specs.Lookups.{number-to-square, square-to-number, finish-square}
 use Rattle.curve.proofs.Answers.{number-outside}
+use Rattle.curve.proofs.Finish.{Elsewhere, narrow, low, finish-is}
 use Rattle.curve.proofs.Promises.{number-answered, number-back}
 use Rattle.words.specs.Letters.{bytes}
 use Rattle.words.specs.Words.{begins, all-digits, value-on, is-number, numeral, same-bytes}
@@ -42,6 +44,14 @@ number = number-back 3 4 8 2 1 3 cell
 past-the-end : number-to-square 3 4 12 ≡ refused NumberOutside 3
 past-the-end = sym (number-outside 3 4 accepts 12 (le-refl 12))
 
+-- no area of those that end elsewhere than at (w - 1, 0)
+corner : Elsewhere 3 4 → ⊥
+corner (narrow one more) = omega arith
+corner (low three odd two) = omega arith
+
+finish : finish-square 3 4 ≡ answered (2 ∷ 0 ∷ [])
+finish = finish-is 3 4 accepts .nowhere-else corner
+
 abbrev pub input : String
 input = "AREA 3 4\nN 8\nS 2 1\nN 3E4\nN 12\n"
 
@@ -59,8 +69,8 @@ three-by-four = InForce (record { w = 3; h = 4 })
 
 -- the five replies, and that only the first line alters the area
 set : reply NoArea (bytes "AREA 3 4") ≡ says Area-set (3 ∷ 4 ∷ 12 ∷ 2 ∷ 0 ∷ [])
-unfolding reply request shaped fields same-bytes numeral is-number all-digits value-on accepted finish-square
-set = refl
+unfolding reply request shaped fields same-bytes numeral is-number all-digits value-on
+set = ap (from-call Area-set (3 ∷ 4 ∷ 12 ∷ [])) finish
 
 asked-number : reply three-by-four (bytes "N 8") ≡ says Cell (2 ∷ 1 ∷ 3 ∷ [])
 unfolding three-by-four reply request shaped fields same-bytes numeral is-number all-digits value-on
