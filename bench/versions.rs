@@ -107,7 +107,11 @@ pub fn finish_square(w: u32, h: u32) -> Result<(u32, u32), u32> {
     if !accepted(w, h) {
         return Err(1);
     }
-    Ok((w - 1, 0))
+    match (w, h) {
+        (1, _) => Ok((0, h - 1)),
+        (_, 2) => Ok((w - 1 - w % 2, 0)),
+        _ => Ok((w - 1, 0)),
+    }
 }
 
 #[derive(Clone, Copy)]

@@ -78,8 +78,8 @@ uint32_t uvalinda_number_to_square(uint32_t w, uint32_t h, uint32_t number, uint
 uint32_t uvalinda_square_to_number(uint32_t w, uint32_t h, uint32_t x, uint32_t y, uint32_t *result, size_t result_length);
 
 /*
- * The finish square of an area, (w - 1, 0). Values: x, y. It is the square of the last number except where w = 1 and h > 1, or h = 2 and w is
- * odd and over 1.
+ * The finish square of an area, where a crew stands at the end: the square of number w * h - 1. Values: x, y. It is (w - 1, 0), except for width 1
+ * with height above 1, where it is (0, h - 1), and for odd width of 3 or more with height 2, where it is (w - 2, 0).
  * Refusal: AREA_LIMIT.
  */
 uint32_t uvalinda_finish_square(uint32_t w, uint32_t h, uint32_t *result, size_t result_length);

@@ -1,5 +1,5 @@
-// boundary SEED: the library's C functions against the independent reading of document 01: every area up to 40 by 40 whole, and random and hostile
-// arguments by the hundred thousand. The seed is printed, and what was asked, where an answer differs.
+// boundary SEED: the library's C functions against the independent reading of documents 01 and 02: every area up to 40 by 40 whole, the finish square of every
+// area up to 300 by 300, and random and hostile arguments by the hundred thousand. The seed is printed, and what was asked, where an answer differs.
 mod expected;
 #[allow(dead_code)] // the way down to a number is not needed here
 mod independent;
@@ -63,7 +63,7 @@ fn handle_line(w: u32, h: u32, line: &[u8], length: usize) -> (u32, Vec<u64>) {
     told(returned, out)
 }
 
-// Every number and every square of an area, and those past its ends, against the whole list of its squares.
+// Every number and every square of an area, those past its ends, and its finish square, against the whole list of its squares.
 fn whole_area(w: u32, h: u32) {
     let traversal = independent::traversal(w as i64, h as i64);
     let mut numbers = vec![vec![Err(2); 42]; 42];
@@ -79,6 +79,22 @@ fn whole_area(w: u32, h: u32) {
             assert_eq!(square_to_number(w, h, x as u32, y as u32, 3), due(answer, 2, 3), "square ({x}, {y}) of {w} by {h}");
         }
     }
+    let answer = traversal.last().map_or(Err(1), |(s, _)| Ok(vec![s.x, s.y]));
+    assert_eq!(finish_square(w, h, 3), due(&answer, 2, 3), "finish square of {w} by {h}");
+}
+
+// The finish square of an area, by its call and by an AREA line, is the square of the last number; and where that is, as document 02 says it.
+fn finish(w: u32, h: u32) {
+    let last = independent::finish_square(w as i64, h as i64);
+    assert_eq!(finish_square(w, h, 3), due(&last, 2, 3), "finish square of {w} by {h}");
+    let line = format!("AREA {w} {h}").into_bytes();
+    assert_eq!(handle_line(0, 0, &line, 7), line_due(0, 0, &line, 7), "line AREA {w} {h}");
+    let said = match (w, h) {
+        (1, 2..) => vec![0, h as i64 - 1],
+        (3.., 2) if w % 2 == 1 => vec![w as i64 - 2, 0],
+        _ => vec![w as i64 - 1, 0],
+    };
+    assert_eq!(last, Ok(said), "the last square of {w} by {h}");
 }
 
 // Fills and checks of a table of some length, of both kinds, with a result slice of some length, and checks of the table with one value changed.
@@ -104,7 +120,7 @@ fn tables(random: &mut Random, w: u32, h: u32, places: usize, length: usize) {
     }
 }
 
-// Document 01's cases for areas too large to list, with the values that it gives, and the squares that most blocks hold.
+// Document 01's cases for areas too large to list, with the values that it gives, and the squares that most blocks hold; document 02's finish squares.
 fn worked_cases() {
     let found = |w, h, number| number_to_square(w, h, number, 3).1;
     assert_eq!(found(65535, 65535, 4294836224)[..2], [65534, 0]);
@@ -116,6 +132,11 @@ fn worked_cases() {
     assert_eq!(number_to_square(0, 5, 0, 3), (1, vec![0, 0, 0]));
     for places in [11, 13] {
         assert_eq!(fill(3, 4, false, &mut vec![7; places], 1), (4, vec![0]));
+    }
+    for (w, h, x, y) in [(5, 2, 3, 0), (3, 2, 1, 0), (65535, 2, 65533, 0), (1, 7, 0, 6), (1, 1, 0, 0), (4, 2, 3, 0), (65535, 65535, 65534, 0)] {
+        assert_eq!(finish_square(w, h, 2), (0, vec![x, y]));
+        let line = format!("AREA {w} {h}").into_bytes();
+        assert_eq!(handle_line(0, 0, &line, 6), (0, vec![w as u64, h as u64, 1, w as u64 * h as u64, x, y]));
     }
 }
 
@@ -204,6 +225,18 @@ fn main() {
         }
     }
     println!("boundary: every area up to 40 by 40, its lookups and its tables, as the independent program has them");
+    for w in 1..=300 {
+        for h in 1..=300 {
+            finish(w, h);
+        }
+    }
+    for side in 301..=65535 {
+        for other in [1, 2, 3, 65535] {
+            finish(side, other);
+            finish(other, side);
+        }
+    }
+    println!("boundary: the finish square of every area up to 300 by 300, and of every area with a side of 1, 2, 3 or 65535, is its last number's");
     for (w, h) in [(65535, 1), (1, 65535), (65535, 2), (3, 65535), (300, 200), (181, 359), (512, 512)] {
         tables(&mut random, w, h, w as usize * h as usize, 4);
     }

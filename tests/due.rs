@@ -1,4 +1,4 @@
-// What the program `orders` should print for its standard input, by the independent reading of document 01.
+// What the program `orders` should print for its standard input, by the independent reading of documents 01 and 02.
 #[allow(dead_code)] // tables are not needed here
 mod independent;
 

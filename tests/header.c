@@ -1,6 +1,6 @@
 /*
  * The header as a C program and as a C++ program see it: every function answered, refused and with a result that is one place too short, with
- * document 01's worked cases; every constant by what a call returns or by its value.
+ * the worked cases of documents 01 and 02; every constant by what a call returns or by its value.
  */
 #include "uvalinda.h"
 
@@ -31,6 +31,10 @@ static void lookups(void) {
     EXPECT(found[0] == 9 && found[1] == 3);
     EXPECT(uvalinda_square_to_number(4, 3, 4, 0, found, UVALINDA_NUMBER_PLACES) == UVALINDA_SQUARE_OUTSIDE);
     EXPECT(uvalinda_square_to_number(4, 3, 2, 1, found, UVALINDA_NUMBER_PLACES - 1) == UVALINDA_SHORT_RESULT);
+    EXPECT(uvalinda_finish_square(5, 2, found, UVALINDA_FINISH_PLACES) == UVALINDA_ANSWERED);
+    EXPECT(found[0] == 3 && found[1] == 0);
+    EXPECT(uvalinda_finish_square(1, 7, found, UVALINDA_FINISH_PLACES) == UVALINDA_ANSWERED);
+    EXPECT(found[0] == 0 && found[1] == 6);
     EXPECT(uvalinda_finish_square(65535, 65535, found, UVALINDA_FINISH_PLACES) == UVALINDA_ANSWERED);
     EXPECT(found[0] == 65534 && found[1] == 0);
     EXPECT(uvalinda_finish_square(0, 5, found, UVALINDA_FINISH_PLACES) == UVALINDA_AREA_LIMIT);

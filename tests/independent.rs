@@ -1,4 +1,4 @@
-// What the library should answer, worked out independently: written from document 01 alone, in plain Rust, with no code of the library. The test
+// What the library should answer, worked out independently: written from documents 01 and 02 alone, in plain Rust, with no code of the library. The test
 // programs share it.
 
 #[derive(Clone, Copy)]
@@ -186,8 +186,13 @@ pub fn square_to_number(w: i64, h: i64, x: i64, y: i64) -> Answer {
     if count > 64 { Err(9) } else { Ok(vec![n, count]) }
 }
 
+// The square of number w·h - 1.
 pub fn finish_square(w: i64, h: i64) -> Answer {
-    if !accepted(w, h) { Err(1) } else { Ok(vec![w - 1, 0]) }
+    if !accepted(w, h) {
+        return Err(1);
+    }
+    let (s, _) = square_of(whole(w, h), w * h - 1);
+    Ok(vec![s.x, s.y])
 }
 
 // A table of either kind as it is due.

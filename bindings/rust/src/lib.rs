@@ -110,12 +110,14 @@ impl Area {
         refusal::unless_refused(returned, found, |[number, blocks]| Number { number, blocks })
     }
 
-    /// The finish square, (w - 1, 0). It is the square of the last number except where w = 1 and h > 1, or h = 2 and w is odd and over 1.
-    /// Refused: [`Refusal::AreaLimit`].
+    /// The finish square, where a crew stands at the end: the square of number w·h - 1. It is (w - 1, 0), except for width 1 with height above 1, where it is
+    /// (0, h - 1), and for odd width of 3 or more with height 2, where it is (w - 2, 0). Refused: [`Refusal::AreaLimit`].
     ///
     /// ```
     /// # use uvalinda::{Area, Square};
     /// assert_eq!(Area { w: 3, h: 4 }.finish_square(), Ok(Square { x: 2, y: 0 }));
+    /// assert_eq!(Area { w: 1, h: 7 }.finish_square(), Ok(Square { x: 0, y: 6 }));
+    /// assert_eq!(Area { w: 5, h: 2 }.finish_square(), Ok(Square { x: 3, y: 0 }));
     /// ```
     pub fn finish_square(self) -> Result<Square, Refusal> {
         let mut found = [0; 2];

@@ -52,11 +52,13 @@ fn the_iterator_goes_both_ways() {
 }
 
 #[test]
-fn the_finish_square_is_the_last_but_for_two_kinds_of_area() {
-    for area in areas() {
+fn the_finish_square_is_the_last() {
+    for area in areas().chain([Area { w: 65535, h: 2 }, Area { w: 65534, h: 2 }, Area { w: 1, h: 65535 }, Area { w: 65535, h: 65535 }]) {
         let last = area.squares().unwrap().last().unwrap();
-        let elsewhere = area.w == 1 && area.h > 1 || area.h == 2 && area.w % 2 == 1 && area.w > 1;
-        assert_eq!(area.finish_square() == Ok(last), !elsewhere, "{area:?}");
+        assert_eq!(area.finish_square(), Ok(last), "{area:?}");
+        let corner = Square { x: area.w - 1, y: 0 };
+        let elsewhere = area.w == 1 && area.h > 1 || area.h == 2 && area.w % 2 == 1 && area.w >= 3;
+        assert_eq!(last == corner, !elsewhere, "{area:?}");
     }
 }
 
@@ -86,4 +88,6 @@ fn an_area_line_is_told_whole() {
     assert_eq!(reply, Ok(Reply::Area { area, squares: 4294836225, finish: Square { x: 65534, y: 0 } }));
     assert_eq!(clerk.area(), Some(area));
     assert_eq!(clerk.handle(b"S 65534 0"), area.square_to_number(65534, 0).map(Reply::Number));
+    let area = Area { w: 5, h: 2 };
+    assert_eq!(clerk.handle(b"AREA 5 2"), Ok(Reply::Area { area, squares: 10, finish: Square { x: 3, y: 0 } }));
 }
