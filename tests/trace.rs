@@ -1,6 +1,6 @@
 // trace: every name in the tables of docs/TRACE.md exists: a file, a crate, a function or type of the code or the tests, a definition or theorem, or a
-// must-fail edit. A name that is followed by a file in brackets, alone or as the last of several, stands in that file. And every public function of the
-// library stands in the page's table "One answer".
+// must-fail edit. A name that is followed by a file in brackets, alone or as the last of several, stands in that file. Every public function of the
+// library stands in the page's table "One answer", and every request with a section on the page has its note in docs/LANDINGS.md.
 use std::fs;
 use std::path::{Path, PathBuf};
 
@@ -97,7 +97,16 @@ fn main() {
     for function in functions.iter().filter(|function| !one_answer.contains(&format!("`{function}`"))) {
         miss(format!("{function} is not under \"One answer\""));
     }
-    assert!(count > 0 && !functions.is_empty(), "docs/TRACE.md names nothing");
+    let notes = fs::read_to_string("docs/LANDINGS.md").expect("the notes can be read");
+    let requests: Vec<&str> = page.lines().filter_map(|line| line.strip_prefix("### Order ")).collect();
+    for request in requests.iter().filter(|request| !notes.lines().any(|line| line.strip_prefix("## Order ") == Some(**request))) {
+        miss(format!("docs/LANDINGS.md has no note on order {request}"));
+    }
+    assert!(count > 0 && !functions.is_empty() && !requests.is_empty(), "docs/TRACE.md names nothing");
     assert!(missing == 0, "{missing} names are wrong or missing, of {count}");
-    println!("trace: {count} names, and all of them exist where the page says; {} public functions with one answer each", functions.len());
+    println!(
+        "trace: {count} names, and all of them exist where the page says; {} public functions with one answer each; requests with a note: {}",
+        functions.len(),
+        requests.len()
+    );
 }
