@@ -230,7 +230,7 @@ fn main() {
             finish(w, h);
         }
     }
-    for side in 301..=65535 {
+    for side in 1..=65535 {
         for other in [1, 2, 3, 65535] {
             finish(side, other);
             finish(other, side);

@@ -30,8 +30,8 @@ square-to-number w h x y =
     let n = blocks-holding (whole w h) (square x y) in
     on-area w h 2 (cond (ltb x w && ltb y h) (unless-deep n (number-of (whole w h) (square x y) ∷ n ∷ []) 2) (refused SquareOutside 2))
 
--- "The finish square becomes the square of number w·h - 1." Document 01: "none" of the blocks are reported. Its lengths tell the square without a descent, so
--- that 9 is not one of its refusals.
+-- "The finish square becomes the square of number w·h - 1." Document 01: blocks reported, "none". The area's lengths tell the square without a descent, so that
+-- 9 is not one of its refusals.
 unfoldable pub finish-square : (w h : ℕ) → Figures
 finish-square w h =
     let s = square-of (whole w h) (w * h - 1) in
