@@ -132,7 +132,7 @@ module _ (w h : ℕ) (k : Block) (i : Inside w h k) (before : List Block) (q : B
         omega arith
 
 -- a straight block: its squares follow in its run or in its side, and it alone holds them
-row-at : (d : Direction) (n m : ℕ) (s z : Square) → m < n → getD (row d n s) m z ≡ moved d m s
+pub row-at : (d : Direction) (n m : ℕ) (s z : Square) → m < n → getD (row d n s) m z ≡ moved d m s
 unfolding row
 row-at d zero m s z l = absurd (omega arith)
 row-at d (suc n) zero s z l = sym (moved-none d s)

@@ -10,7 +10,7 @@ use lib.ListN.{length, getD}
 use native.Mathlib.Omega.{arith}
 use Rattle.terms.specs.declared.Refusal.{Refusal}
 use Rattle.terms.specs.declared.Refusal.the-variants.{AreaLimit, SquareOutside, NumberOutside, TableLength, NotANumber, WrongShape, NoArea, LongLine}
-use Rattle.terms.specs.declared.Refusal.the-variants.{TooDeep}
+use Rattle.terms.specs.declared.Refusal.the-variants.{TooDeep, CornersCrossed, NoRoom}
 use Rattle.terms.specs.Terms.{longest-side, past-32-bits, length-accepted, accepted, area-refusal, refusal-number, Figures}
 
 -- what a call learns from the test of its area
@@ -53,7 +53,8 @@ area-refused-1 w h bad = refl
 
 -- the refusals, and which of them has a number; this one law grows with them
 refusals : List Refusal
-refusals = AreaLimit ∷ SquareOutside ∷ NumberOutside ∷ TableLength ∷ NotANumber ∷ WrongShape ∷ NoArea ∷ LongLine ∷ TooDeep ∷ []
+refusals =
+    AreaLimit ∷ SquareOutside ∷ NumberOutside ∷ TableLength ∷ NotANumber ∷ WrongShape ∷ NoArea ∷ LongLine ∷ TooDeep ∷ CornersCrossed ∷ NoRoom ∷ []
 
 among : List Refusal → ℕ → List Refusal
 among [] n = []
@@ -73,6 +74,8 @@ numbered-back WrongShape = refl
 numbered-back NoArea = refl
 numbered-back LongLine = refl
 numbered-back TooDeep = refl
+numbered-back CornersCrossed = refl
+numbered-back NoRoom = refl
 
 -- the refusal of a number, so that no two have one, and none has 0
 pub named : ℕ → Refusal

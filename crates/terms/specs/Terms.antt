@@ -1,5 +1,5 @@
 -- The terms that every contract uses: which areas are accepted, the refusals' numbers, an answer's figures on paper, and that an area is judged first.
--- Document 01, "What is bought" and "Refusal numbers".
+-- Document 01, "What is bought" and "Refusal numbers", and the refusals of document 02, order 2.
 use mathlib.Core.Bool.{Bool, _&&_, cond}
 use mathlib.Core.List.{List}
 use Prim.Native.Nat.{ℕ}
@@ -7,7 +7,7 @@ use lib.Dec.{leb}
 use lib.ListN.{replicate}
 use Rattle.terms.specs.declared.Refusal.{Refusal}
 use Rattle.terms.specs.declared.Refusal.the-variants.{AreaLimit, SquareOutside, NumberOutside, TableLength, NotANumber, WrongShape, NoArea, LongLine}
-use Rattle.terms.specs.declared.Refusal.the-variants.{TooDeep}
+use Rattle.terms.specs.declared.Refusal.the-variants.{TooDeep, CornersCrossed, NoRoom}
 
 -- "An area has a width w and a height h, each from 1 to 65,535."
 abbrev pub longest-side : ℕ
@@ -43,6 +43,10 @@ refusal-number NoArea = 7
 refusal-number LongLine = 8
 -- "a descent would open a 65th block"
 refusal-number TooDeep = 9
+-- order 2: "x0 > x1 or y0 > y1"
+refusal-number CornersCrossed = 10
+-- order 2: "more runs than whole pairs of room"; it tells the number of runs
+refusal-number NoRoom = 11
 
 -- So many blocks may hold a square that a call needs.
 abbrev pub most-blocks : ℕ

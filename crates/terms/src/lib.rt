@@ -25,6 +25,8 @@ pub enum Refusal {
     NoArea,
     LongLine,
     TooDeep,
+    CornersCrossed,
+    NoRoom,
 }
 
 // Whether a width or a height is within the limit.
@@ -68,5 +70,7 @@ pub fn refusal_number(r: Refusal) -> u32
         Refusal::NoArea => 7,
         Refusal::LongLine => 8,
         Refusal::TooDeep => 9,
+        Refusal::CornersCrossed => 10,
+        Refusal::NoRoom => 11,
     }
 }
