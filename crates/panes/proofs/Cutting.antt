@@ -1,19 +1,18 @@
 -- A walk part by part: each part's pane has what a walk asks, its area is less, and what the parts see, one after the other, is what the block sees. The
 -- laws are over a word and a list of pairs, so that they serve the walk that counts, whose list is empty, and the walk that writes.
-use mathlib.Core.List.{List, [], _∷_, _++_}
+use mathlib.Core.List.{List, _++_}
 use mathlib.Core.Path.{_≡_, refl, sym, ap, ap₂, subst, subst⁻¹, _∙_}
-use Prim.Native.Nat.{ℕ, zero, suc, _+_, _-_, _*_, _/_, _≤_, _<_, min}
+use Prim.Native.Nat.{ℕ, _+_, _-_, _*_, _/_, _≤_, _<_}
 use native.Mathlib.Nat.{mul-le-mul}
 use native.Mathlib.Omega.{arith}
 use lib.ListN.{length}
-use Rattle.terms.specs.Terms.{longest-side, past-32-bits}
 use Rattle.division.specs.declared.Choice.{Choice}
 use Rattle.division.specs.declared.Choice.the-variants.{LongCut, UCut}
-use Rattle.division.specs.Division.{Block, whole, choice, even-half, Part, First, Second, A, B, C, part, parts, parts-of, curve}
-use Rattle.division.specs.Division.Inside.{Sized, Inside}
+use Rattle.division.specs.Division.{whole, choice, even-half, Part, First, Second, A, B, C, part, parts-of, curve}
+use Rattle.division.specs.Division.Inside.{Inside}
 use Rattle.division.proofs.Rules.{All, Halves, halves, parts-are}
 use Rattle.division.proofs.Cases.{rule, in-two, in-three, long-lengths, u-lengths}
-use Rattle.division.proofs.Cuts.{area, inside-parts, long-areas, u-areas}
+use Rattle.division.proofs.Cuts.{inside-parts, long-areas, u-areas}
 use Rattle.division.proofs.Once.{length-curve}
 use Rattle.division.proofs.Blocks.{whole-inside}
 use Rattle.panes.specs.declared.Pane.{Pane}

@@ -1,15 +1,14 @@
 -- The blocks that a walk does not cut: straight ones, one that is seen whole, and small ones. Their numbers can be taken up, and there is room for the pairs.
-use mathlib.Core.List.{List, []}
-use mathlib.Core.Path.{_≡_, sym, ap, _∙_}
-use Prim.Native.Nat.{ℕ, _+_, _*_, _≤_, _<_}
+use mathlib.Core.List.{List}
+use mathlib.Core.Path.{_≡_, ap, _∙_}
+use Prim.Native.Nat.{ℕ, _+_, _*_, _≤_}
 use native.Mathlib.Nat.{mul-one, one-mul, mul-le-mul}
 use native.Mathlib.Omega.{arith}
-use lib.ListN.{length}
 use Rattle.division.specs.declared.Choice.the-variants.{StraightRun, StraightSide, UCut}
 use Rattle.division.specs.Division.{whole, choice}
 use Rattle.division.proofs.Cases.{run-length, side-length, u-lengths}
 use Rattle.panes.specs.declared.Pane.{Pane}
-use Rattle.panes.specs.Panes.{Tally, tally, runs-in, joined-word, joined, Walks, Opens, Leaf, Holds, Joins}
+use Rattle.panes.specs.Panes.{Tally, runs-in, Walks, Opens, Leaf, Holds, Joins}
 use Rattle.panes.proofs.Parts.{sized}
 
 -- room for the pairs of two tallies that are one

@@ -3,7 +3,7 @@
 use mathlib.Core.Bool.{Bool, true, false, cond, and-eq-true-iff}
 use mathlib.Core.List.{List, [], _∷_, _++_, map}
 use mathlib.Core.Path.{_≡_, refl, sym, ap, ap₂, subst, subst⁻¹, _∙_}
-use Prim.Native.Nat.{ℕ, zero, suc, _+_, _-_, _*_, _/_, _%_, _≤_, _<_}
+use Prim.Native.Nat.{ℕ, zero, suc, _+_, _-_, _*_, _≤_, _<_}
 use native.Mathlib.Nat.{le-refl, add-zero, add-suc, suc-add}
 use native.Mathlib.Omega.{arith}
 use borrow.Author.Tests.{eqb-true, eq-eqb, leb-true, ltb-true, le-leb, lt-ltb}
@@ -12,7 +12,7 @@ use lib.ListN.{length, getD, set}
 use lib.Seq.{set-set}
 use Rattle.terms.specs.Terms.{past-32-bits}
 use Rattle.division.specs.Division.{Square, square}
-use Rattle.panes.specs.Panes.{in-span, Tally, tally, no-runs, runs-in, behind, joined-word, joined-pairs, joined, over, Joins, Holds}
+use Rattle.panes.specs.Panes.{in-span, Tally, tally, no-runs, runs-in, behind, joined-word, joined-pairs, joined, over}
 
 -- the word and the pairs with p to q taken up, by whether they follow the last run
 pub word-by : (word p q : ℕ) (t : Bool) → eqb (behind word) p ≡ t → joined-word word p q ≡ cond t (word + (q - p)) ((runs-in word + 1) * past-32-bits + q)

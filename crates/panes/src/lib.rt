@@ -16,13 +16,13 @@ ghost use Rattle.panes.specs.Panes.{Walks, Opens, Leaf, Holds, Joins, Ma
 pub const NO_RUNS: u64 = 4294967295;
 
 // The squares of an a by b block with u from u0 on and below u1, and v from v0 on and below v1.
-struct Pane {
-    a: u32,
-    b: u32,
-    u0: u32,
-    u1: u32,
-    v0: u32,
-    v1: u32,
+pub struct Pane {
+    pub a: u32,
+    pub b: u32,
+    pub u0: u32,
+    pub u1: u32,
+    pub v0: u32,
+    pub v1: u32,
 }
 
 // The lesser of two.
