@@ -12,7 +12,7 @@ use Rattle.clerk.specs.declared.Clerk.{Clerk}
 use Rattle.clerk.specs.declared.Reply.{Reply}
 use Rattle.clerk.specs.Clerk.{Said, said, after, reply}
 use Rattle.tables.specs.Tables.{unless-refused, fill}
-use Rattle.exports.specs.Boundary.{returned, written, filled}
+use Rattle.exports.specs.Boundary.{returned, written, left, filled}
 use Rattle.exports.specs.Handling.{area-of, handled-figures, handled-by}
 
 pub set-one : (s : List ℕ) (x : ℕ) → 1 ≤ length s → set s 0 x ≡ x ∷ drop 1 s
@@ -57,18 +57,28 @@ pub found : (n : ℕ) {A : Type 0} (figures : A → Figures) {f : Figures} (s : 
     → (r ≡ returned n f s) × (last ≡ written n f s)
 found n figures s l e due r p last q = answer n s l (ap figures (sym e) ∙ due) (p, q)
 
--- A fill, by the list that is due: its slice for the count is too short, and the table is kept; or it is not.
+-- A call that writes a lent slice and tells one value: the slice for that is too short, and the lent one is kept; or it is not.
+module _ (f : Figures) (after lent slice : List ℕ) where
+  pub lent-short : length slice < 1 → (255 ≡ returned 1 f slice) × ((slice ≡ written 1 f slice) × (lent ≡ left after lent slice))
+  lent-short l = rw (lt-leb 1 (length slice) l) (refl, (refl, refl))
+
+  pub lent-told : 1 ≤ length slice → {g : Figures} → g ≡ f → (last : List ℕ) → last ≡ after
+      → {r : ℕ} {values : List ℕ} → (r ≡ g .refusal) × (values ≡ g .values ++ drop 1 slice)
+      → (r ≡ returned 1 f slice) × ((values ≡ written 1 f slice) × (last ≡ left after lent slice))
+  lent-told l e last is {r} {values} both =
+      let due-told = told 1 (λ g. g) slice (sym e) r (both .0) values (both .1) in
+      rw (le-leb 1 (length slice) l) (due-told .0, (due-told .1, is))
+
+-- A fill, by the list that is due.
 module _ (w h : ℕ) (due : ℕ → ℕ → List ℕ) (table slice : List ℕ) where
   pub fill-short : length slice < 1
       → (255 ≡ returned 1 (fill w h table) slice) × ((slice ≡ written 1 (fill w h table) slice) × (table ≡ filled (fill w h table) (due w h) table slice))
-  fill-short l = rw (lt-leb 1 (length slice) l) (refl, (refl, refl))
+  fill-short = lent-short (fill w h table) (unless-refused (fill w h table) (due w h) table) table slice
 
-  pub fill-told : 1 ≤ length slice → {g : Figures} → g ≡ fill w h table → (left : List ℕ) → left ≡ unless-refused (fill w h table) (due w h) table
-      → {r : ℕ} {last : List ℕ} → (r ≡ g .refusal) × (last ≡ g .values ++ drop 1 slice)
-      → (r ≡ returned 1 (fill w h table) slice) × ((last ≡ written 1 (fill w h table) slice) × (left ≡ filled (fill w h table) (due w h) table slice))
-  fill-told l e left f {r} {last} both =
-      let due-told = told 1 (λ g. g) slice (sym e) r (both .0) last (both .1) in
-      rw (le-leb 1 (length slice) l) (due-told .0, (due-told .1, f))
+  pub fill-told : 1 ≤ length slice → {g : Figures} → g ≡ fill w h table → (last : List ℕ) → last ≡ unless-refused (fill w h table) (due w h) table
+      → {r : ℕ} {values : List ℕ} → (r ≡ g .refusal) × (values ≡ g .values ++ drop 1 slice)
+      → (r ≡ returned 1 (fill w h table) slice) × ((values ≡ written 1 (fill w h table) slice) × (last ≡ filled (fill w h table) (due w h) table slice))
+  fill-told = lent-told (fill w h table) (unless-refused (fill w h table) (due w h) table) table slice
 
 -- What the clerk hands back, as figures, is what is due of a clerk under the caller's area.
 abbrev pub shown-under : Area → Reply → Figures

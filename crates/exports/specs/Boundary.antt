@@ -7,6 +7,7 @@ use lib.Dec.{leb}
 use lib.ListN.{length, drop}
 use Rattle.terms.specs.Terms.{Figures}
 use Rattle.tables.specs.Tables.{unless-refused}
+use Rattle.windows.specs.declared.Window.{Window}
 
 -- The refusal's number, 0 for none, or 255 where the slice is too short.
 abbrev pub returned : (n : ℕ) → Figures → List ℕ → ℕ
@@ -16,6 +17,14 @@ returned n f slice = cond (leb n (length slice)) (f .refusal) 255
 abbrev pub written : (n : ℕ) → Figures → List ℕ → List ℕ
 written n f slice = cond (leb n (length slice)) (f .values ++ drop n slice) slice
 
+-- A lent slice that a call writes: as the call leaves it, or as it was where the slice for the values is too short.
+abbrev pub left : (after before slice : List ℕ) → List ℕ
+left after before slice = cond (leb 1 (length slice)) after before
+
 -- A table that is to be filled: as the fill leaves it, or as it was where the slice for the count of blocks is too short.
 abbrev pub filled : Figures → (due table slice : List ℕ) → List ℕ
-filled f due table slice = cond (leb 1 (length slice)) (unless-refused f due table) table
+filled f due table slice = left (unless-refused f due table) table slice
+
+-- A window by its corners.
+abbrev pub window-at : (x0 y0 x1 y1 : ℕ) → Window
+window-at x0 y0 x1 y1 = record { x0 = x0; y0 = y0; x1 = x1; y1 = y1 }

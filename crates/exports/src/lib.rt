@@ -11,6 +11,9 @@ use curve::SquareAnswer;
 use tables::CheckAnswer;
 use tables::FillAnswer;
 use terms::Area;
+use terms::Refusal;
+use windows::RunsAnswer;
+use windows::Window;
 ghost use mathlib.Core.List.{_∷_, _++_};
 ghost use mathlib.Core.Path.{_≡_};
 ghost use Prim.Native.Nat.{_≤_};
@@ -18,7 +21,8 @@ ghost use lib.ListN.{length, drop};
 ghost use Rattle.clerk.specs.Clerk.{said};
 ghost use Rattle.curve.specs.Lookups.{number-to-square, square-to-number, finish-square};
 ghost use Rattle.tables.specs.Tables.{by-number, by-square, fill, fill-figures, check, check-figures};
-ghost use Rattle.exports.specs.Boundary.{returned, written, filled};
+ghost use Rattle.windows.specs.Windows.{runs-for-window, slice-after, runs-figures};
+ghost use Rattle.exports.specs.Boundary.{returned, written, left, filled, window-at};
 ghost use Rattle.exports.specs.Handling.{area-of, handled-figures, handled};
 
 // What a call returns where its slice is too short.
@@ -216,6 +220,54 @@ pub extern "C" fn uvalinda_check_by_square(w: u32, h: u32, table: &[u32], result
     }
     let answer = tables::check_by_square(Area { w: w, h: h }, table);
     tell_check(answer, result)
+}
+
+// The answer to a window: how many runs there are, to the first place.
+fn tell_runs(answer: RunsAnswer, result: &mut [u32]) -> u32
+    requires { ⌜ 1 ≤ length (now result) ⌝ }
+    ensures returned { λ r. ⌜ r ≡ runs-figures answer .refusal ⌝ }
+    ensures count { λ r. ⌜ now (result .exit) ≡ runs-figures answer .values ++ drop 1 (now (result .entry)) ⌝ }
+{
+    match answer {
+        RunsAnswer::Found { count } => {
+            result[0] = count;
+            0
+        }
+        RunsAnswer::Short { count } => {
+            result[0] = count;
+            terms::refusal_number(Refusal::NoRoom)
+        }
+        RunsAnswer::Refused(r) => {
+            result[0] = 0;
+            terms::refusal_number(r)
+        }
+    }
+}
+
+// Writes the runs of a window's numbers as pairs, and says how many there are, also where the slice has no room for them.
+#[no_mangle]
+pub extern "C" fn uvalinda_runs_for_window(
+    w: u32,
+    h: u32,
+    x0: u32,
+    y0: u32,
+    x1: u32,
+    y1: u32,
+    runs: &mut [u32],
+    result: &mut [u32],
+) -> u32
+    ensures returned { λ r. ⌜ r ≡ returned 1 (runs-for-window w h (window-at x0 y0 x1 y1) (now (runs .entry))) (now (result .entry)) ⌝ }
+    ensures count { λ r. ⌜ now (result .exit)
+        ≡ written 1 (runs-for-window w h (window-at x0 y0 x1 y1) (now (runs .entry))) (now (result .entry)) ⌝ }
+    ensures runs { λ r. ⌜ now (runs .exit)
+        ≡ left (slice-after w h (window-at x0 y0 x1 y1) (now (runs .entry))) (now (runs .entry)) (now (result .entry)) ⌝ }
+{
+    if result.len() < 1 {
+        return SHORT;
+    }
+    let window = Window { x0, y0, x1, y1 };
+    let answer = windows::runs_for_window(Area { w: w, h: h }, window, runs);
+    tell_runs(answer, result)
 }
 
 // The first six places of a slice: an area, what kind of reply, and its values.
