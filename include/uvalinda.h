@@ -7,8 +7,8 @@
  * What a call returns: 0, or the number of a refusal (UVALINDA_AREA_LIMIT and so on), or UVALINDA_SHORT_RESULT.
  *
  * What a call writes: its values go to the first places of `result` (of `blocks`, for a fill), in the order given with each call. At a refusal
- * each of them is 0, except those that the call says it tells beside a refusal (the area in force, see uvalinda_handle_line), and a table is left
- * as it was. Places after the values are never written. Where there are fewer places than values, the call writes nothing, fills nothing and
+ * each of them is 0, except those that the call says it tells beside a refusal (the area in force, see uvalinda_handle_line, and the number of runs
+ * at NO_ROOM, see uvalinda_runs_for_window), and a table, or the slice for runs, is left as it was. Places after the values are never written. Where there are fewer places than values, the call writes nothing, fills nothing and
  * returns UVALINDA_SHORT_RESULT, whatever else there is to refuse.
  *
  * Who owns what: every pointer is lent for the time of the call. The library keeps nothing, allocates nothing and has no state, so calls from
@@ -38,7 +38,7 @@
 extern "C" {
 #endif
 
-/* What a call returns. 1 to 9 are the refusals; which of them a call can give is said with the call. */
+/* What a call returns. 1 to 11 are the refusals; which of them a call can give is said with the call. */
 #define UVALINDA_ANSWERED 0u        /* not refused */
 #define UVALINDA_AREA_LIMIT 1u      /* w or h is 0 or over 65,535 */
 #define UVALINDA_SQUARE_OUTSIDE 2u  /* x >= w or y >= h */
@@ -49,6 +49,8 @@ extern "C" {
 #define UVALINDA_NO_AREA 7u         /* an N or S line with no area in force */
 #define UVALINDA_LONG_LINE 8u       /* a line has over 64 bytes */
 #define UVALINDA_TOO_DEEP 9u        /* over 64 blocks of the division hold a square; proved never to arise */
+#define UVALINDA_CORNERS_CROSSED 10u /* x0 > x1 or y0 > y1 */
+#define UVALINDA_NO_ROOM 11u        /* there are more runs than whole pairs of room; the value tells how many runs there are */
 #define UVALINDA_SHORT_RESULT 255u  /* `result` or `blocks` is too short: nothing was done */
 
 /* How many values each call writes. */
@@ -57,6 +59,7 @@ extern "C" {
 #define UVALINDA_FINISH_PLACES 2u
 #define UVALINDA_FILL_PLACES 1u
 #define UVALINDA_CHECK_PLACES 3u
+#define UVALINDA_RUNS_PLACES 1u
 #define UVALINDA_LINE_PLACES 6u
 
 /* What kind of reply a line got: the third value of uvalinda_handle_line. */
@@ -100,6 +103,25 @@ uint32_t uvalinda_fill_by_square(uint32_t w, uint32_t h, uint32_t *table, size_t
  */
 uint32_t uvalinda_check_by_number(uint32_t w, uint32_t h, const uint32_t *table, size_t table_length, uint32_t *result, size_t result_length);
 uint32_t uvalinda_check_by_square(uint32_t w, uint32_t h, const uint32_t *table, size_t table_length, uint32_t *result, size_t result_length);
+
+/*
+ * The numbers of the squares with x from x0 to x1 and y from y0 to y1, ends included, as runs: the pairs (first, last) go to `runs` one behind the
+ * other, ascending, no two runs touching or overlapping. Places behind the last pair are not written; room is whole pairs, so that an odd last place
+ * never is. Value: how many runs there are, also at NO_ROOM.
+ * Refusals, in this order: AREA_LIMIT, CORNERS_CROSSED, SQUARE_OUTSIDE for a corner outside the area, NO_ROOM, TOO_DEEP. `runs` is then as it was, as
+ * it is at SHORT_RESULT. A window of W by H squares takes time by its border, W + H, not by its area.
+ *
+ * Who does not know how much room to lend asks first with none:
+ *
+ *     uint32_t count[UVALINDA_RUNS_PLACES];
+ *     uint32_t refusal = uvalinda_runs_for_window(3, 4, 0, 0, 1, 1, NULL, 0, count, UVALINDA_RUNS_PLACES);
+ *     if (refusal == UVALINDA_NO_ROOM) { // two runs: 0 to 1 and 9 to 10
+ *         uint32_t *runs = malloc(sizeof *runs * 2 * count[0]);
+ *         refusal = uvalinda_runs_for_window(3, 4, 0, 0, 1, 1, runs, 2 * (size_t)count[0], count, UVALINDA_RUNS_PLACES);
+ *     }
+ */
+uint32_t uvalinda_runs_for_window(uint32_t w, uint32_t h, uint32_t x0, uint32_t y0, uint32_t x1, uint32_t y1, uint32_t *runs, size_t runs_length,
+                                  uint32_t *result, size_t result_length);
 
 /*
  * Answers one order line: `AREA w h`, `N i` or `S x y`, any bytes, without the newline. The caller keeps the area in force as two numbers,

@@ -4,6 +4,7 @@ mod expected;
 #[allow(dead_code)] // the way down to a number is not needed here
 mod independent;
 mod random;
+#[allow(dead_code)] // windows have a program of their own
 #[path = "../bindings/rust/src/raw.rs"]
 mod raw;
 

@@ -7,7 +7,7 @@ pub const UNTOUCHED: u32 = 0xDEAD_BEEF;
 const SHORT: u32 = 255;
 
 // A result slice of this length after a call, and what it returned, given that and the values where there is room for them.
-fn left(returned: u32, values: &[i64], length: usize) -> (u32, Vec<u64>) {
+pub fn left(returned: u32, values: &[i64], length: usize) -> (u32, Vec<u64>) {
     let mut left = vec![UNTOUCHED as u64; length];
     if length < values.len() {
         return (SHORT, left);

@@ -11,6 +11,7 @@ mod random;
 mod raw;
 
 use expected::{due, line_due, UNTOUCHED};
+use independent::Window;
 use random::Lines;
 use std::cell::Cell;
 use std::ffi::{c_int, c_long, c_void};
@@ -179,6 +180,36 @@ fn check(room: &Room, w: u32, h: u32, by_square: bool, table: &[u32]) {
     room.ask(&what, 3, |length| due(&answer, 3, length), call);
 }
 
+// The slice for runs can only be read where the call may not write it.
+fn runs_for_window(room: &Room, w: u32, h: u32, v: [u32; 4], places: usize) {
+    let window = Window { x0: v[0] as i64, y0: v[1] as i64, x1: v[2] as i64, y1: v[3] as i64 };
+    let runs = || independent::runs_by_squares(w as i64, h as i64, window);
+    let (refusal, count, written) = independent::window_answer(w as i64, h as i64, window, places, runs);
+    let before = vec![UNTOUCHED; places];
+    let mut after = before.clone();
+    for (pair, run) in after.chunks_mut(2).zip(&written) {
+        pair.copy_from_slice(&[run.0 as u32, run.1 as u32]);
+    }
+    let what = format!("runs of {v:?} in {w} by {h}, {places} places");
+    let call = |result, length, guard| {
+        let (left_so, protection) = if refusal == 0 && length >= 1 { (&after, PROT_BOTH) } else { (&before, PROT_READ) };
+        let slice = room.lay(&before, guard, protection);
+        let returned = unsafe { raw::uvalinda_runs_for_window(w, h, v[0], v[1], v[2], v[3], slice, places, result, length) };
+        assert!(left(slice, places) == *left_so, "the runs after {what}, {length} places for the result, guard: {guard:?}");
+        returned
+    };
+    room.ask::<u32>(&what, 1, |length| expected::left(refusal as u32, &[count], length), call);
+}
+
+// Windows of an area, with room none, short, odd, exact and ample, and some that are refused.
+fn windows(room: &Room, w: u32, h: u32) {
+    for v in [[0, 0, w / 2, h / 2], [w / 3, h / 2, w - 1, h - 1], [0, h / 2, w - 1, h / 2], [1, 0, 0, 0], [0, 0, w, 0], [0, 0, w - 1, h - 1]] {
+        for places in [0, 1, 2, 3, 4, 5, 9, 16, 41] {
+            runs_for_window(room, w, h, v, places);
+        }
+    }
+}
+
 fn handle_line(room: &Room, w: u32, h: u32, line: &[u8]) {
     let text = String::from_utf8_lossy(&line[..line.len().min(80)]);
     let call = |result, length, guard| unsafe { raw::uvalinda_handle_line(w, h, room.lay(line, guard, PROT_READ), line.len(), result, length) };
@@ -280,6 +311,7 @@ fn main() {
     let room = Room { results: Pages::for_bytes(4_096), short: Pages::for_bytes(4_096), long: Pages::for_bytes(1 << 20), calls: Cell::new(0) };
     for (w, h) in (0..=12).flat_map(|w| (0..=12).map(move |h| (w, h))) {
         small_area(&room, w, h);
+        windows(&room, w.max(1), h.max(1));
     }
     for (w, h) in [(65535, 1), (1, 65535), (65535, 3), (2, 65535), (300, 200)] {
         large_area(&room, w, h, &[w as usize * h as usize, 65_535, 65_536]);

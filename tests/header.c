@@ -43,6 +43,19 @@ static void lookups(void) {
     EXPECT(UVALINDA_TOO_DEEP == 9);
 }
 
+/* What a caller does who does not know how much room to lend: it asks with none, and again with as much as it was told. */
+static void windows(void) {
+    uint32_t count[UVALINDA_RUNS_PLACES], runs[5] = {7, 7, 7, 7, 7};
+    EXPECT(uvalinda_runs_for_window(3, 4, 0, 0, 1, 1, NULL, 0, count, UVALINDA_RUNS_PLACES) == UVALINDA_NO_ROOM && count[0] == 2);
+    EXPECT(uvalinda_runs_for_window(3, 4, 0, 0, 1, 1, runs, 3, count, UVALINDA_RUNS_PLACES) == UVALINDA_NO_ROOM && count[0] == 2 && runs[0] == 7);
+    EXPECT(uvalinda_runs_for_window(3, 4, 0, 0, 1, 1, runs, 2 * (size_t)count[0], count, UVALINDA_RUNS_PLACES) == UVALINDA_ANSWERED && count[0] == 2);
+    EXPECT(runs[0] == 0 && runs[1] == 1 && runs[2] == 9 && runs[3] == 10 && runs[4] == 7);
+    EXPECT(uvalinda_runs_for_window(3, 4, 1, 0, 0, 9, runs, 5, count, UVALINDA_RUNS_PLACES) == UVALINDA_CORNERS_CROSSED && count[0] == 0);
+    EXPECT(uvalinda_runs_for_window(3, 4, 0, 0, 3, 0, runs, 5, count, UVALINDA_RUNS_PLACES) == UVALINDA_SQUARE_OUTSIDE);
+    EXPECT(uvalinda_runs_for_window(0, 4, 1, 0, 0, 0, runs, 5, count, UVALINDA_RUNS_PLACES) == UVALINDA_AREA_LIMIT);
+    EXPECT(uvalinda_runs_for_window(3, 4, 0, 0, 2, 3, runs, 5, NULL, 0) == UVALINDA_SHORT_RESULT && runs[1] == 1);
+}
+
 static void tables(void) {
     static const uint32_t due[12] = {0, 3, 6, 9, 10, 11, 8, 7, 5, 4, 1, 2};
     static const uint32_t by_square[12] = {0, 10, 11, 1, 9, 8, 2, 7, 6, 3, 4, 5};
@@ -96,6 +109,7 @@ static void lines(void) {
 
 int main(void) {
     lookups();
+    windows();
     tables();
     lines();
     return wrong;

@@ -195,6 +195,66 @@ pub fn finish_square(w: i64, h: i64) -> Answer {
     Ok(vec![s.x, s.y])
 }
 
+// A window by its corners.
+#[derive(Clone, Copy, Debug)]
+pub struct Window {
+    pub x0: i64,
+    pub y0: i64,
+    pub x1: i64,
+    pub y1: i64,
+}
+
+impl Window {
+    fn has(self, s: Square) -> bool {
+        self.x0 <= s.x && s.x <= self.x1 && self.y0 <= s.y && s.y <= self.y1
+    }
+}
+
+// Document 02, order 2. The runs of ascending numbers: a number that follows the one before it is of the same run.
+fn runs_of(numbers: impl Iterator<Item = i64>) -> Vec<(i64, i64)> {
+    let mut runs: Vec<(i64, i64)> = vec![];
+    for n in numbers {
+        match runs.last_mut() {
+            Some(run) if run.1 + 1 == n => run.1 = n,
+            _ => runs.push((n, n)),
+        }
+    }
+    runs
+}
+
+// The runs of a window by brute force, over all squares of a small area in the order of their numbers.
+pub fn runs_by_squares(w: i64, h: i64, window: Window) -> Vec<(i64, i64)> {
+    runs_of(curve(whole(w, h)).into_iter().enumerate().filter(|(_, s)| window.has(*s)).map(|(n, _)| n as i64))
+}
+
+// The same where the area is too large to list: the numbers of the window's squares, sorted.
+pub fn runs_by_numbers(w: i64, h: i64, window: Window) -> Vec<(i64, i64)> {
+    let mut numbers: Vec<i64> = vec![];
+    for y in window.y0..=window.y1 {
+        numbers.extend((window.x0..=window.x1).map(|x| number_of(whole(w, h), Square { x, y }).0));
+    }
+    numbers.sort_unstable();
+    runs_of(numbers.into_iter())
+}
+
+// What the call for a window answers, given its runs: the refusal's number, and how many runs it tells of; and whether the runs are written.
+pub fn window_answer(w: i64, h: i64, window: Window, places: usize, runs: impl Fn() -> Vec<(i64, i64)>) -> (i64, i64, Vec<(i64, i64)>) {
+    if !accepted(w, h) {
+        return (1, 0, vec![]);
+    }
+    if window.x0 > window.x1 || window.y0 > window.y1 {
+        return (10, 0, vec![]);
+    }
+    if window.x0 >= w || window.y0 >= h || window.x1 >= w || window.y1 >= h {
+        return (2, 0, vec![]);
+    }
+    let runs = runs();
+    if runs.len() > places / 2 {
+        return (11, runs.len() as i64, vec![]);
+    }
+    (0, runs.len() as i64, runs)
+}
+
 // A table of either kind as it is due.
 pub fn table_due(w: i64, h: i64, by_square: bool) -> Vec<u32> {
     let mut table = vec![0; (w * h) as usize];

@@ -13,5 +13,17 @@ extern "C" {
     pub fn uvalinda_fill_by_square(w: u32, h: u32, table: *mut u32, table_length: usize, blocks: *mut u64, blocks_length: usize) -> u32;
     pub fn uvalinda_check_by_number(w: u32, h: u32, table: *const u32, table_length: usize, result: *mut u32, result_length: usize) -> u32;
     pub fn uvalinda_check_by_square(w: u32, h: u32, table: *const u32, table_length: usize, result: *mut u32, result_length: usize) -> u32;
+    pub fn uvalinda_runs_for_window(
+        w: u32,
+        h: u32,
+        x0: u32,
+        y0: u32,
+        x1: u32,
+        y1: u32,
+        runs: *mut u32,
+        runs_length: usize,
+        result: *mut u32,
+        result_length: usize,
+    ) -> u32;
     pub fn uvalinda_handle_line(w: u32, h: u32, line: *const u8, line_length: usize, result: *mut u32, result_length: usize) -> u32;
 }

@@ -53,6 +53,8 @@ refusals! {
     7 NoArea: "An N or S line with no area in force.", "no area is in force";
     8 LongLine: "A line has over 64 bytes.", "the line has over 64 bytes";
     9 TooDeep: "Over 64 blocks of the division hold a square. It is proved that this never arises.", "over 64 blocks of the division hold the square";
+    10 CornersCrossed: "x0 > x1 or y0 > y1.", "the window's corners are crossed";
+    11 NoRoom: "There are more runs than whole pairs of room.", "there is no room for all runs";
 }
 
 impl core::error::Error for Refusal {}

@@ -1,3 +1,4 @@
 pub mod Determined
 pub mod Tallied
 pub mod Answers
+pub mod Promises
