@@ -201,30 +201,30 @@ impl Area {
         refusal::unless_refused(returned, judged, Check::found)
     }
 
-    // One call for a window: what it returned, and the number of runs that it told.
-    fn ask_window(self, window: Window, room: &mut [u32]) -> (u32, u32) {
+    // One call for a window: how many runs it has.
+    fn ask_window(self, window: Window, room: &mut [u32]) -> Result<u32, Refusal> {
         let Window { x0, y0, x1, y1 } = window;
         let mut count = [0];
         // SAFETY: the slice and the array are passed with their own lengths.
         let returned = unsafe {
             raw::uvalinda_runs_for_window(self.w, self.h, x0, y0, x1, y1, room.as_mut_ptr(), room.len(), count.as_mut_ptr(), count.len())
         };
-        (returned, count[0])
+        refusal::unless_refused(returned, count, |[count]| count)
     }
 
     /// How many runs of numbers a window has: how many pairs of room [`Area::runs_for_window`] takes. Refused: [`Refusal::AreaLimit`],
     /// [`Refusal::CornersCrossed`], then [`Refusal::SquareOutside`] for a corner outside the area.
     pub fn count_runs(self, window: Window) -> Result<u32, Refusal> {
         match self.ask_window(window, &mut []) {
-            // A window has a run at least, so that no room is never enough: the refusal tells how many there are.
-            (returned, count) if returned == u32::from(Refusal::NoRoom) => Ok(count),
-            (returned, count) => refusal::unless_refused(returned, count),
+            // A window has a run at least, so that no room is never enough: the refusal tells how many there are, a count of 32 bits.
+            Err(Refusal::NoRoom { count }) => Ok(count as u32),
+            answer => answer,
         }
     }
 
     /// The numbers of a window's squares as runs, each a pair of its first and its last number: ascending, no two touching or overlapping. They are written
-    /// to the front of `room`, and the rest of it stays as it was. Refused, with `room` as it was: as [`Area::count_runs`], then [`Refusal::NoRoom`] if there
-    /// are more runs than pairs of room.
+    /// to the front of `room`, and the rest of it stays as it was. Refused, with `room` as it was: as [`Area::count_runs`], then [`Refusal::NoRoom`], with how
+    /// many runs there are, if they are more than the pairs of room.
     ///
     /// ```
     /// # use uvalinda::{Area, Refusal, Window};
@@ -233,12 +233,12 @@ impl Area {
     /// assert_eq!(area.count_runs(window), Ok(2));
     /// let mut room = vec![[0; 2]; 2];
     /// assert_eq!(area.runs_for_window(window, &mut room), Ok(&[[0, 1], [9, 10]][..]));
-    /// assert_eq!(area.runs_for_window(window, &mut room[..1]), Err(Refusal::NoRoom));
+    /// assert_eq!(area.runs_for_window(window, &mut room[..1]), Err(Refusal::NoRoom { count: 2 }));
     /// assert_eq!(area.count_runs(Window { x0: 1, y0: 0, x1: 0, y1: 0 }), Err(Refusal::CornersCrossed));
     /// ```
     pub fn runs_for_window(self, window: Window, room: &mut [[u32; 2]]) -> Result<&[[u32; 2]], Refusal> {
-        let (returned, count) = self.ask_window(window, room.as_flattened_mut());
-        refusal::unless_refused(returned, count).map(|count| &room[..count as usize])
+        let count = self.ask_window(window, room.as_flattened_mut())?;
+        Ok(&room[..count as usize])
     }
 
     /// The area's squares in the order of their numbers. Refused: [`Refusal::AreaLimit`].

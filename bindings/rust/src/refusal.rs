@@ -1,7 +1,7 @@
 //! The refusals by name and number.
 
 // Made of one list of them: number, name, when it is given, and what it says of itself. A refusal that tells something besides its number has a name for
-// that value too, as in `11 Name { count: u64 }`, and `{count}` in what it says.
+// that value too, and has it in what it says.
 macro_rules! refusals {
     ($($number:literal $name:ident $({ $value:ident: u64 })?: $when:literal, $says:literal;)*) => {
         /// Why a call or a line is refused. `u32::from` gives the number that `orders` prints.
@@ -54,7 +54,7 @@ refusals! {
     8 LongLine: "A line has over 64 bytes.", "the line has over 64 bytes";
     9 TooDeep: "Over 64 blocks of the division hold a square. It is proved that this never arises.", "over 64 blocks of the division hold the square";
     10 CornersCrossed: "x0 > x1 or y0 > y1.", "the window's corners are crossed";
-    11 NoRoom: "There are more runs than whole pairs of room.", "there is no room for all runs";
+    11 NoRoom { count: u64 }: "There are more runs than whole pairs of room.", "there are {count} runs, more than there is room for";
 }
 
 impl core::error::Error for Refusal {}
