@@ -31,88 +31,11 @@ seen-grows p {n} {word} w pairs =
 -- a part's pane: its lengths within the limits, and its corners within its lengths
 part-walks : (q : Part) (p : Pane) {n word : ℕ} → Walks p n word → 2 ≤ p .a → 2 ≤ p .b → (n′ word′ : ℕ)
     → n′ + pane-in q p .a * pane-in q p .b ≤ n + p .a * p .b → no-runs ≤ word′ → runs-in word′ ≤ n′ → Walks (pane-in q p) n′ word′
-part-walks q p {n} {word} w a b n′ word′ fits begun few = by q fits
-  where
-    by : (q : Part) → n′ + pane-in q p .a * pane-in q p .b ≤ n + p .a * p .b → Walks (pane-in q p) n′ word′
-    by First fits =
-        let half = halves (p .a) a in
-        let l = w .a-limit in
-        let room = w .room in
-        record {
-          a-least = half .pos;
-          b-least = w .b-least;
-          a-limit = omega arith;
-          b-limit = w .b-limit;
-          u-limit = omega arith;
-          v-limit = w .v-limit;
-          room = omega arith;
-          begun = begun;
-          few = few;
-        }
-    by Second fits =
-        let half = halves (p .a) a in
-        let l = w .a-limit in
-        let room = w .room in
-        let u = w .u-limit in
-        record {
-          a-least = omega arith;
-          b-least = w .b-least;
-          a-limit = omega arith;
-          b-limit = w .b-limit;
-          u-limit = omega arith;
-          v-limit = w .v-limit;
-          room = omega arith;
-          begun = begun;
-          few = few;
-        }
-    by A fits =
-        let half = halves (p .b) b in
-        let l = w .a-limit in
-        let m = w .b-limit in
-        let room = w .room in
-        record {
-          a-least = half .pos;
-          b-least = omega arith;
-          a-limit = omega arith;
-          b-limit = omega arith;
-          u-limit = omega arith;
-          v-limit = omega arith;
-          room = omega arith;
-          begun = begun;
-          few = few;
-        }
-    by B fits =
-        let half = halves (p .b) b in
-        let m = w .b-limit in
-        let room = w .room in
-        let v = w .v-limit in
-        record {
-          a-least = w .a-least;
-          b-least = omega arith;
-          a-limit = w .a-limit;
-          b-limit = omega arith;
-          u-limit = w .u-limit;
-          v-limit = omega arith;
-          room = omega arith;
-          begun = begun;
-          few = few;
-        }
-    by C fits =
-        let half = halves (p .b) b in
-        let l = w .a-limit in
-        let m = w .b-limit in
-        let room = w .room in
-        record {
-          a-least = half .pos;
-          b-least = omega arith;
-          a-limit = omega arith;
-          b-limit = omega arith;
-          u-limit = omega arith;
-          v-limit = omega arith;
-          room = omega arith;
-          begun = begun;
-          few = few;
-        }
+part-walks First p w a b n′ word′ fits begun few = let half = halves (p .a) a in omega arith
+part-walks Second p w a b n′ word′ fits begun few = let half = halves (p .a) a in omega arith
+part-walks A p w a b n′ word′ fits begun few = let half = halves (p .b) b in omega arith
+part-walks B p w a b n′ word′ fits begun few = let half = halves (p .b) b in omega arith
+part-walks C p w a b n′ word′ fits begun few = let half = halves (p .b) b in omega arith
 
 -- What is asked of a block of a case: its measure is m, and it may be walked.
 abbrev pub Cut : Choice → Pane → (n word m : ℕ) → Type 0
