@@ -1,14 +1,14 @@
 -- The request's sentence determines the runs: those of the definition are apart and cover exactly the window's numbers, and any two lists of runs that are
 -- apart and cover the same numbers are one list.
-use mathlib.Core.Bool.{Bool, true, false, cond}
+use mathlib.Core.Bool.{Bool, true, false, _&&_, cond, and-eq-true-iff}
 use mathlib.Core.List.{List, [], _∷_}
 use mathlib.Core.Path.{_≡_, refl, sym, ap, ap₂, subst, subst⁻¹, _∙_}
 use Prim.Native.Nat.{ℕ, zero, suc, _+_, _*_, _≤_, _<_}
 use native.Mathlib.Nat.{zero-add, le-refl, le-antisymm}
 use native.Mathlib.Decide.{decLt}
 use native.Mathlib.Omega.{arith}
-use borrow.Author.Tests.{eqb-true, eqb-false}
-use lib.Dec.{eqb}
+use borrow.Author.Tests.{eqb-true, eqb-false, le-leb, leb-true}
+use lib.Dec.{leb, eqb}
 use lib.ListN.{length, getD}
 use Rattle.division.specs.Division.{Square, square, whole, curve, square-of, number-of}
 use Rattle.division.proofs.Once.{length-curve, square-of-number, number-below}
@@ -181,9 +181,30 @@ covers-from test n (s ∷ ss) m z = by (test s) refl z (covers-from test (suc n)
         at false f = passes-on test n s ss m (next (ahead-back n m (runs-from test (suc n) ss) z (eqb-false m n f)))
     by false e z next = passes-on test n s ss m (next z)
 
--- The window's numbers: those of the area whose square lies in the window.
+-- "x from x0 to x1 and y from y0 to y1, ends included"
+abbrev pub From-to : Window → Square → Type 0
+From-to v s = (v .x0 ≤ s .x) × (s .x ≤ v .x1) × (v .y0 ≤ s .y) × (s .y ≤ v .y1)
+
+from-to-in : (v : Window) (s : Square) → From-to v s → in-window v s ≡ true
+unfolding in-window
+from-to-in v s p =
+    rw (le-leb (v .x0) (s .x) (p .0), le-leb (s .x) (v .x1) (p .1), le-leb (v .y0) (s .y) (p .2), le-leb (s .y) (v .y1) (p .3)) refl
+
+in-from-to : (v : Window) (s : Square) → in-window v s ≡ true → From-to v s
+unfolding in-window
+in-from-to v s e =
+    let both = and-eq-true-iff (leb (v .x0) (s .x) && leb (s .x) (v .x1)) (leb (v .y0) (s .y) && leb (s .y) (v .y1)) .0 e in
+    let in-x = and-eq-true-iff (leb (v .x0) (s .x)) (leb (s .x) (v .x1)) .0 (both .0) in
+    let in-y = and-eq-true-iff (leb (v .y0) (s .y)) (leb (s .y) (v .y1)) .0 (both .1) in (
+      leb-true (v .x0) (s .x) (in-x .0),
+      leb-true (s .x) (v .x1) (in-x .1),
+      leb-true (v .y0) (s .y) (in-y .0),
+      leb-true (s .y) (v .y1) (in-y .1),
+    )
+
+-- The window's numbers: those of the area whose square lies between the corners.
 abbrev pub Window-number : (w h : ℕ) → Window → (m : ℕ) → Type 0
-Window-number w h v m = (m < w * h) × (in-window v (square-of (whole w h) m) ≡ true)
+Window-number w h v m = (m < w * h) × From-to v (square-of (whole w h) m)
 
 module _ (w h : ℕ) (pw : 1 ≤ w) (ph : 1 ≤ h) (v : Window) where
   all-long : length (curve (whole w h)) ≡ w * h
@@ -202,7 +223,7 @@ module _ (w h : ℕ) (pw : 1 ≤ w) (ph : 1 ≤ h) (v : Window) where
       let long = all-long in
       let below = is .0 in
       subst (λ (k : ℕ). Covered k (runs-from (in-window v) 0 (curve (whole w h)))) (zero-add m)
-      (covers-to (in-window v) 0 (curve (whole w h)) m (omega arith) (is .1))
+      (covers-to (in-window v) 0 (curve (whole w h)) m (omega arith) (from-to-in v (getD (curve (whole w h)) m (square 0 0)) (is .1)))
 
   pub covered-window : (m : ℕ) → Covered m (window-runs w h v) → Window-number w h v m
   unfolding window-runs square-of
@@ -212,16 +233,29 @@ module _ (w h : ℕ) (pw : 1 ≤ w) (ph : 1 ≤ h) (v : Window) where
       let is = p .1 in
       let l = p .2 in
       let at : p .0 ≡ m = omega arith in
-      (omega arith, ap (λ i. in-window v (getD (curve (whole w h)) i (square 0 0))) (sym at) ∙ p .3)
+      let test = ap (λ i. in-window v (getD (curve (whole w h)) i (square 0 0))) (sym at) ∙ p .3 in
+      (omega arith, in-from-to v (getD (curve (whole w h)) m (square 0 0)) test)
 
-  -- of squares: each square of the area that lies in the window has its number covered
-  pub square-covered : (x y : ℕ) → x < w → y < h → in-window v (square x y) ≡ true → Covered (number-of (whole w h) (square x y)) (window-runs w h v)
+  -- of squares: each square of the area with x from x0 to x1 and y from y0 to y1 has its number covered, and a covered number's square is such a one
+  pub square-covered : (x y : ℕ) → x < w → y < h → v .x0 ≤ x → x ≤ v .x1 → v .y0 ≤ y → y ≤ v .y1
+      → Covered (number-of (whole w h) (square x y)) (window-runs w h v)
   unfolding whole
-  square-covered x y l k is =
+  square-covered x y l k x-from x-to y-from y-to =
       let inside = whole-inside w h pw ph in
       let held = whole-holds w h (square x y) (record { run = l; side = k }) in
-      window-covered (number-of (whole w h) (square x y))
-      (number-below w h (whole w h) inside (square x y) held, ap (in-window v) (square-of-number w h (whole w h) inside (square x y) held) ∙ is)
+      window-covered (number-of (whole w h) (square x y)) (
+        number-below w h (whole w h) inside (square x y) held,
+        subst⁻¹ (From-to v) (square-of-number w h (whole w h) inside (square x y) held) (x-from, x-to, y-from, y-to),
+      )
+
+  pub covered-square : (x y : ℕ) → x < w → y < h → Covered (number-of (whole w h) (square x y)) (window-runs w h v)
+      → (v .x0 ≤ x) × (x ≤ v .x1) × (v .y0 ≤ y) × (y ≤ v .y1)
+  unfolding whole
+  covered-square x y l k z =
+      let inside = whole-inside w h pw ph in
+      let held = whole-holds w h (square x y) (record { run = l; side = k }) in
+      subst (From-to v) (square-of-number w h (whole w h) inside (square x y) held)
+      (covered-window (number-of (whole w h) (square x y)) z .1)
 
   -- The request's sentence leaves no choice.
   pub sentence-determines : (b : ℕ) (rs : List Run) → Apart b rs → ((m : ℕ) → Covered m rs → Window-number w h v m)
