@@ -1,5 +1,5 @@
--- Windows worked by hand, as one table under one claim, which computes: runs of document 01's 3 by 4 area, and each refusal of document 02, order 2, before
--- those that come after it.
+-- Windows worked by hand, as one table under one claim, which computes: runs of document 01's 3 by 4 area and of a 7 by 6 area, and each refusal of document
+-- 02, order 2, before those that come after it.
 use mathlib.Core.Bool.{Bool, true, _&&_}
 use mathlib.Core.List.{List, [], _∷_}
 use Prim.Native.Nat.{ℕ}
@@ -35,6 +35,8 @@ all-right [] = true
 all-right (c ∷ cs) = right c && all-right cs
 
 -- Numbers of the 3 by 4 area, row by row from y = 0: 0 10 11, 1 9 8, 2 7 6, 3 4 5.
+-- Of the 7 by 6 area: 0 3 4 36 37 38 41, 1 2 5 35 34 39 40, 10 9 6 32 33 28 27, 11 8 7 31 30 29 26, 12 15 16 19 20 25 24, 13 14 17 18 21 22 23. Its window is
+-- 5 wide and 5 high, with squares of the area outside it before and behind in both directions.
 pub worked : List Case
 worked =
     of 3 4 0 0 1 1 (90 ∷ 91 ∷ 92 ∷ 93 ∷ []) 0 2 (0 ∷ 1 ∷ 9 ∷ 10 ∷ [])
@@ -45,6 +47,8 @@ worked =
     ∷ of 3 4 1 2 1 2 (90 ∷ 91 ∷ []) 0 1 (7 ∷ 7 ∷ [])
     ∷ of 3 4 1 1 2 2 (90 ∷ 91 ∷ []) 0 1 (6 ∷ 9 ∷ [])
     ∷ of 3 4 0 1 2 1 (90 ∷ 91 ∷ 92 ∷ 93 ∷ []) 0 2 (1 ∷ 1 ∷ 8 ∷ 9 ∷ [])
+    ∷ of 7 6 1 1 5 5 (90 ∷ 91 ∷ 92 ∷ 93 ∷ 94 ∷ 95 ∷ 96 ∷ 97 ∷ 98 ∷ 99 ∷ 100 ∷ 101 ∷ 102 ∷ []) 0 6
+    (2 ∷ 2 ∷ 5 ∷ 9 ∷ 14 ∷ 22 ∷ 25 ∷ 25 ∷ 28 ∷ 35 ∷ 39 ∷ 39 ∷ 102 ∷ [])
     ∷ of 1 1 0 0 0 0 (90 ∷ 91 ∷ 92 ∷ []) 0 1 (0 ∷ 0 ∷ 92 ∷ [])
     ∷ of 0 4 1 0 0 0 [] 1 0 []
     ∷ of 3 65536 1 0 0 9 (90 ∷ []) 1 0 (90 ∷ [])
