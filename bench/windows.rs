@@ -203,7 +203,9 @@ fn main() {
         let in_rust = |v: Window| u64::from(in_rust(w, h, v, &mut other).unwrap_or_default());
         let (library, rust) = in_turn(&windows, 60, calls, by_library, in_rust);
         let (border, all) = in_turn(&windows[..1], 3, 1, |v| by_lookups(w, h, v, false) as u64, |v| by_lookups(w, h, v, true) as u64);
-        let squares = (2 * (wide + high)) as f64 * windows.len() as f64;
+        // All squares, but for those that have one beyond them on each of their four sides.
+        let inner = wide.saturating_sub(2) * high.saturating_sub(2);
+        let squares = (wide * high - inner) as f64 * windows.len() as f64;
         println!(
             "| {wide} by {high} | {} | {library:.2} | {rust:.2} | {:.2} | {:.0} times | {:.0} times | {:.2} |",
             runs / windows.len() as u64,

@@ -208,6 +208,18 @@ impl Window {
     fn has(self, s: Square) -> bool {
         self.x0 <= s.x && s.x <= self.x1 && self.y0 <= s.y && s.y <= self.y1
     }
+
+    // Whether a square of the block lies in the window.
+    fn meets(self, k: Block) -> bool {
+        let far = moved(moved(k.start, k.run, k.a - 1), k.side, k.b - 1);
+        let overlap = |from: i64, to: i64, one: i64, other: i64| from <= one.max(other) && one.min(other) <= to;
+        overlap(self.x0, self.x1, k.start.x, far.x) && overlap(self.y0, self.y1, k.start.y, far.y)
+    }
+}
+
+// The most blocks that hold one and the same square of a window.
+fn deepest_in(k: Block, window: Window) -> i64 {
+    if window.meets(k) { 1 + parts(k).into_iter().map(|part| deepest_in(part, window)).max().unwrap_or(0) } else { 0 }
 }
 
 // Document 02, order 2. The runs of ascending numbers: a number that follows the one before it is of the same run.
@@ -237,7 +249,7 @@ pub fn runs_by_numbers(w: i64, h: i64, window: Window) -> Vec<(i64, i64)> {
     runs_of(numbers.into_iter())
 }
 
-// What the call for a window answers, given its runs: the refusal's number, and how many runs it tells of; and whether the runs are written.
+// What the call for a window answers, given its runs: the refusal's number, and how many runs it tells of; and the runs that are written.
 pub fn window_answer(w: i64, h: i64, window: Window, places: usize, runs: impl Fn() -> Vec<(i64, i64)>) -> (i64, i64, Vec<(i64, i64)>) {
     if !accepted(w, h) {
         return (1, 0, vec![]);
@@ -251,6 +263,9 @@ pub fn window_answer(w: i64, h: i64, window: Window, places: usize, runs: impl F
     let runs = runs();
     if runs.len() > places / 2 {
         return (11, runs.len() as i64, vec![]);
+    }
+    if deepest_in(whole(w, h), window) > 64 {
+        return (9, 0, vec![]);
     }
     (0, runs.len() as i64, runs)
 }

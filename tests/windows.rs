@@ -73,8 +73,8 @@ fn span(random: &mut Random, n: u32, most: u64) -> (u32, u32) {
 fn large(random: &mut Random, rounds: u64) -> u64 {
     let mut calls = 0;
     for _ in 0..rounds {
-        let side = random.of(&[12u64, 100, 5_000, 65_535]);
-        let other = random.of(&[side, 40, 65_535]);
+        let side = random.of(&[12u64, 5_000, 65_535, 65_535]);
+        let other = random.of(&[side, side, 40, 65_535]);
         let (w, h) = (1 + random.below(side) as u32, 1 + random.below(other) as u32);
         let (wide, high) = random.of(&[(9, 9), (1, 300), (300, 1), (30, 4), (3, 30), (2, 2)]);
         let ((x0, x1), (y0, y1)) = (span(random, w, wide), span(random, h, high));
@@ -134,7 +134,7 @@ fn main() {
     let seed = std::env::args().nth(1).and_then(|s| s.parse().ok()).unwrap_or(1);
     let mut random = Random::from(seed);
     let small = small();
-    let large = large(&mut random, 70_000);
+    let large = large(&mut random, 200_000);
     let hostile = hostile(&mut random, 200_000);
     let mut wide = 0;
     for (w, h) in [(65_535, 65_535), (65_535, 3), (2, 65_535), (4_096, 4_096), (30_001, 29_999)] {

@@ -1,15 +1,15 @@
 //! The refusals by name and number.
 
 // Made of one list of them: number, name, when it is given, and what it says of itself. A refusal that tells something besides its number has a name for
-// that value too, and has it in what it says.
+// that value too, with what it is, and has it in what it says.
 macro_rules! refusals {
-    ($($number:literal $name:ident $({ $value:ident: u64 })?: $when:literal, $says:literal;)*) => {
-        /// Why a call or a line is refused. `u32::from` gives the number that `orders` prints.
+    ($($number:literal $name:ident $({ $value:ident: u64, $told:literal })?: $when:literal, $says:literal;)*) => {
+        /// Why a call or a line is refused. `u32::from` gives its number, which for a line is the one that `orders` prints.
         #[derive(Clone, Copy, Debug, PartialEq, Eq, Hash)]
         #[non_exhaustive]
         #[repr(u32)]
         pub enum Refusal {
-            $(#[doc = $when] $name $({ #[doc = "What is told besides the number."] $value: u64 })? = $number,)*
+            $(#[doc = $when] $name $({ #[doc = $told] $value: u64 })? = $number,)*
         }
 
         impl From<Refusal> for u32 {
@@ -45,7 +45,7 @@ macro_rules! refusals {
 
 refusals! {
     1 AreaLimit: "w or h is 0 or over 65,535.", "the width or the height is 0 or over 65,535";
-    2 SquareOutside: "x >= w or y >= h.", "the square is outside the area";
+    2 SquareOutside: "x >= w or y >= h, of a square or of a window's corner.", "the square is outside the area";
     3 NumberOutside: "number >= w·h.", "the area has no such number";
     4 TableLength: "The table has not exactly w·h places.", "the table has not as many places as the area has squares";
     5 NotANumber: "A field of a line is not a number.", "a field of the line is not a number";
@@ -54,7 +54,7 @@ refusals! {
     8 LongLine: "A line has over 64 bytes.", "the line has over 64 bytes";
     9 TooDeep: "Over 64 blocks of the division hold a square. It is proved that this never arises.", "over 64 blocks of the division hold the square";
     10 CornersCrossed: "x0 > x1 or y0 > y1.", "the window's corners are crossed";
-    11 NoRoom { count: u64 }: "There are more runs than whole pairs of room.", "there are {count} runs, more than there is room for";
+    11 NoRoom { count: u64, "How many runs there are." }: "There are more runs than whole pairs of room.", "there are {count} runs, more than there is room for";
 }
 
 impl core::error::Error for Refusal {}

@@ -1,5 +1,5 @@
 //! The bindings as a caller uses them: what a lookup says, what a table holds and what the iterator yields agree.
-use uvalinda::{Area, Check, Clerk, Refusal, Reply, Square};
+use uvalinda::{Area, Check, Clerk, Refusal, Reply, Square, Window};
 
 fn areas() -> impl Iterator<Item = Area> {
     (1..=12).flat_map(|w| (1..=12).map(move |h| Area { w, h })).chain([Area { w: 65535, h: 3 }, Area { w: 2, h: 65535 }, Area { w: 300, h: 217 }])
@@ -62,6 +62,42 @@ fn the_finish_square_is_the_last() {
     }
 }
 
+// The window from a third of each side to two thirds, by the iterator: its numbers one by one are what the runs have, and no two runs touch.
+#[test]
+fn runs_are_the_windows_numbers() {
+    for area in areas() {
+        let window = Window { x0: area.w / 3, y0: area.h / 3, x1: area.w * 2 / 3, y1: area.h * 2 / 3 };
+        let window = Window { x1: window.x1.min(area.w - 1), y1: window.y1.min(area.h - 1), ..window };
+        let count = area.count_runs(window).unwrap();
+        let mut room = vec![[u32::MAX; 2]; count as usize + 1];
+        assert_eq!(area.runs_for_window(window, &mut room[..count as usize - 1]), Err(Refusal::NoRoom { count: count.into() }), "{area:?}");
+        assert!(room.iter().all(|pair| *pair == [u32::MAX; 2]), "written where it is refused: {area:?}");
+        let runs = area.runs_for_window(window, &mut room).unwrap().to_vec();
+        assert_eq!((runs.len(), room[count as usize]), (count as usize, [u32::MAX; 2]), "{area:?}");
+        let lies = |s: &Square| (window.x0..=window.x1).contains(&s.x) && (window.y0..=window.y1).contains(&s.y);
+        let numbers = area.squares().unwrap().zip(0..).filter(|(s, _)| lies(s)).map(|(_, number)| number);
+        assert!(numbers.eq(runs.iter().flat_map(|[first, last]| *first..=*last)), "{area:?}");
+        assert!(runs.windows(2).all(|two| two[0][1] + 1 < two[1][0]), "{area:?}");
+    }
+}
+
+#[test]
+fn a_refused_window_leaves_the_room() {
+    let area = Area { w: 3, h: 4 };
+    let mut room = [[7; 2]; 4];
+    for (window, refusal) in [
+        (Window { x0: 1, y0: 0, x1: 0, y1: 9 }, Refusal::CornersCrossed),
+        (Window { x0: 0, y0: 2, x1: 9, y1: 1 }, Refusal::CornersCrossed),
+        (Window { x0: 0, y0: 0, x1: 3, y1: 0 }, Refusal::SquareOutside),
+        (Window { x0: 0, y0: 4, x1: 0, y1: 4 }, Refusal::SquareOutside),
+    ] {
+        assert_eq!(area.runs_for_window(window, &mut room), Err(refusal), "{window:?}");
+        assert_eq!(area.count_runs(window), Err(refusal), "{window:?}");
+        assert_eq!((Area { w: 0, h: 4 }).runs_for_window(window, &mut room), Err(Refusal::AreaLimit), "{window:?}");
+        assert_eq!(room, [[7; 2]; 4], "{window:?}");
+    }
+}
+
 #[test]
 fn refusals_have_their_numbers() {
     let area = Area { w: 3, h: 4 };
@@ -75,8 +111,10 @@ fn refusals_have_their_numbers() {
         clerk.handle(b"N").unwrap_err(),
         clerk.handle(b"N 7").unwrap_err(),
         clerk.handle(&[b'N'; 65]).unwrap_err(),
+        area.count_runs(Window { x0: 1, y0: 0, x1: 0, y1: 9 }).unwrap_err(),
+        area.runs_for_window(Window { x0: 0, y0: 0, x1: 1, y1: 1 }, &mut [[7; 2]]).unwrap_err(),
     ];
-    assert_eq!(refusals.map(u32::from), [1, 2, 3, 4, 5, 6, 7, 8]);
+    assert_eq!(refusals.map(u32::from), [1, 2, 3, 4, 5, 6, 7, 8, 10, 11]);
     assert_eq!(u32::from(Refusal::TooDeep), 9);
 }
 

@@ -284,7 +284,6 @@ fn count_u(p: Pane, n: u32, word: u64) -> u64
     count_pane(in_c(p), to_c, b)
 }
 
-// Writes the pairs of a pane's runs, as `count_pane` counts them.
 fn write_leaf(runs: &mut [u32], p: Pane, n: u32, word: u64) -> u64
     requires { ⌜ Walks p n word × Leaf p n × Holds (seen p (tally word (now runs)) n .word) (now runs) ⌝ }
     ensures { λ r. ⌜ tally r (now (runs .exit)) ≡ seen p (tally word (now (runs .entry))) n ⌝ }
@@ -293,6 +292,7 @@ fn write_leaf(runs: &mut [u32], p: Pane, n: u32, word: u64) -> u64
     write_some(runs, up, downwards(p, n))
 }
 
+// Writes the pairs of a pane's runs, as `count_pane` counts them.
 fn write_pane(runs: &mut [u32], p: Pane, n: u32, word: u64) -> u64
     requires { ⌜ Walks p n word × Holds (seen p (tally word (now runs)) n .word) (now runs) ⌝ }
     ensures { λ r. ⌜ tally r (now (runs .exit)) ≡ seen p (tally word (now (runs .entry))) n ⌝ }
