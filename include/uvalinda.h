@@ -8,8 +8,9 @@
  *
  * What a call writes: its values go to the first places of `result` (of `blocks`, for a fill), in the order given with each call. At a refusal
  * each of them is 0, except those that the call says it tells beside a refusal (the area in force, see uvalinda_handle_line, and the number of runs
- * at NO_ROOM, see uvalinda_runs_for_window), and a table, or the slice for runs, is left as it was. Places after the values are never written. Where there are fewer places than values, the call writes nothing, fills nothing and
- * returns UVALINDA_SHORT_RESULT, whatever else there is to refuse.
+ * at NO_ROOM, see uvalinda_runs_for_window), and a table, or the slice for runs, is left as it was. Places after the values are never written.
+ * Where there are fewer places than values, the call writes nothing, fills nothing and returns UVALINDA_SHORT_RESULT, whatever else there is to
+ * refuse.
  *
  * Who owns what: every pointer is lent for the time of the call. The library keeps nothing, allocates nothing and has no state, so calls from
  * several threads do not disturb each other; a fill or a check of the largest area takes under 9 KB of stack on x86-64, 11 KB on Arm. A pointer
@@ -41,7 +42,7 @@ extern "C" {
 /* What a call returns. 1 to 11 are the refusals; which of them a call can give is said with the call. */
 #define UVALINDA_ANSWERED 0u        /* not refused */
 #define UVALINDA_AREA_LIMIT 1u      /* w or h is 0 or over 65,535 */
-#define UVALINDA_SQUARE_OUTSIDE 2u  /* x >= w or y >= h */
+#define UVALINDA_SQUARE_OUTSIDE 2u  /* x >= w or y >= h, of a square or of a window's corner */
 #define UVALINDA_NUMBER_OUTSIDE 3u  /* number >= w * h */
 #define UVALINDA_TABLE_LENGTH 4u    /* the table has not exactly w * h places */
 #define UVALINDA_NOT_A_NUMBER 5u    /* a field of a line is not a number */
@@ -115,9 +116,18 @@ uint32_t uvalinda_check_by_square(uint32_t w, uint32_t h, const uint32_t *table,
  *
  *     uint32_t count[UVALINDA_RUNS_PLACES];
  *     uint32_t refusal = uvalinda_runs_for_window(3, 4, 0, 0, 1, 1, NULL, 0, count, UVALINDA_RUNS_PLACES);
- *     if (refusal == UVALINDA_NO_ROOM) { // two runs: 0 to 1 and 9 to 10
- *         uint32_t *runs = malloc(sizeof *runs * 2 * count[0]);
- *         refusal = uvalinda_runs_for_window(3, 4, 0, 0, 1, 1, runs, 2 * (size_t)count[0], count, UVALINDA_RUNS_PLACES);
+ *     if (refusal == UVALINDA_NO_ROOM) {
+ *         size_t places = 2 * (size_t)count[0];
+ *         uint32_t *runs = malloc(places * sizeof *runs);
+ *         if (runs != NULL) { // with that much room the call is answered
+ *             uvalinda_runs_for_window(3, 4, 0, 0, 1, 1, runs, places, count, UVALINDA_RUNS_PLACES);
+ *             for (size_t i = 0; i < count[0]; i++) {
+ *                 printf("%u to %u\n", runs[2 * i], runs[2 * i + 1]); // 0 to 1, then 9 to 10
+ *             }
+ *             free(runs);
+ *         }
+ *     } else {
+ *         printf("refused: %u\n", refusal);
  *     }
  */
 uint32_t uvalinda_runs_for_window(uint32_t w, uint32_t h, uint32_t x0, uint32_t y0, uint32_t x1, uint32_t y1, uint32_t *runs, size_t runs_length,

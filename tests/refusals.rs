@@ -28,7 +28,7 @@ fn owned(name: &str, number: &str) -> Option<(String, String)> {
     number.parse::<u32>().ok().map(|_| (name.to_string(), number.to_string()))
 }
 
-// A line of the bindings: `1 Name: ..`, or `11 Name { value: u64 }: ..` where the refusal tells a value.
+// A line of the bindings: `1 Name: ..`, or `11 Name { value: u64, ".." }: ..` where the refusal tells a value.
 fn listed(line: &str) -> Option<(String, String)> {
     let (number, name) = line.split_once(':')?.0.split_once(' ')?;
     owned(name.split(" {").next()?, number)
