@@ -54,7 +54,8 @@ refusals! {
     8 LongLine: "A line has over 64 bytes.", "the line has over 64 bytes";
     9 TooDeep: "Over 64 blocks of the division hold a square. It is proved that this never arises.", "over 64 blocks of the division hold the square";
     10 CornersCrossed: "x0 > x1 or y0 > y1.", "the window's corners are crossed";
-    11 NoRoom { count: u64, "How many runs there are." }: "There are more runs than whole pairs of room.", "there are {count} runs, more than there is room for";
+    11 NoRoom { count: u64, "How many runs there are." }: "There are more runs than whole pairs of room.",
+        "there are {count} runs, more than there is room for";
 }
 
 impl core::error::Error for Refusal {}
