@@ -38,15 +38,15 @@ pub fn choose(a: u32, b: u32) -> Choice
     Choice::UCut
 }
 
-// Half of a length, made even where the length is over 2.
+// Half of a length, made even where the length is over 2: there it is twice ((len + 2) div 4), with no test for odd.
 pub fn even_half(len: u32) -> u32
+    requires { ⌜ len ≤ longest-side ⌝ }
     ensures { λ r. ⌜ r ≡ even-half len ⌝ }
 {
-    let half = len / 2;
     if len <= 2 {
-        return half;
+        return len / 2;
     }
-    half + half % 2
+    2 * ((len + 2) / 4)
 }
 
 // x or y by a test: so short that the compiler selects and does not branch.
@@ -149,7 +149,7 @@ pub struct Spot {
 
 // The square as the long cut's part that holds it has it.
 pub fn in_long(s: Spot) -> Spot
-    requires { ⌜ (2 ≤ s .a) × (s .u < s .a) ⌝ }
+    requires { ⌜ (2 ≤ s .a) × (s .u < s .a) × (s .a ≤ longest-side) ⌝ }
     ensures { λ r. ⌜ r ≡ seen-in (cond (ltb (s .u) (even-half (s .a))) First Second) s ⌝ }
 {
     let e = even_half(s.a);
@@ -164,6 +164,7 @@ pub fn in_long(s: Spot) -> Spot
 
 // The square as part A has it.
 pub fn in_a(s: Spot) -> Spot
+    requires { ⌜ s .b ≤ longest-side ⌝ }
     ensures { λ r. ⌜ r ≡ seen-in Part.A s ⌝ }
 {
     Spot {
@@ -176,7 +177,7 @@ pub fn in_a(s: Spot) -> Spot
 
 // The square as part B has it.
 pub fn in_b(s: Spot) -> Spot
-    requires { ⌜ (2 ≤ s .b) × (even-half (s .b) ≤ s .v) ⌝ }
+    requires { ⌜ (2 ≤ s .b) × (even-half (s .b) ≤ s .v) × (s .b ≤ longest-side) ⌝ }
     ensures { λ r. ⌜ r ≡ seen-in B s ⌝ }
 {
     let e = even_half(s.b);
@@ -190,7 +191,7 @@ pub fn in_b(s: Spot) -> Spot
 
 // The square as part C has it.
 pub fn in_c(s: Spot) -> Spot
-    requires { ⌜ (s .u < s .a) × (s .v < even-half (s .b)) ⌝ }
+    requires { ⌜ (s .u < s .a) × (s .v < even-half (s .b)) × (s .b ≤ longest-side) ⌝ }
     ensures { λ r. ⌜ r ≡ seen-in C s ⌝ }
 {
     let e = even_half(s.b);

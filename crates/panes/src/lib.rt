@@ -7,6 +7,7 @@ ghost use mathlib.Core.List.{[]};
 ghost use mathlib.Core.Path.{_≡_};
 ghost use Prim.Native.Nat.{_-_, _≤_, _<_, min};
 ghost use lib.ListN.{length};
+ghost use Rattle.terms.specs.Terms.{longest-side};
 ghost use Rattle.division.specs.declared.Choice.the-variants.{LongCut, UCut};
 ghost use Rattle.division.specs.Division.{choice, Part, First, Second, B, C};
 ghost use Rattle.panes.specs.Panes.{pane-at, pane-in, is-whole, tally, joined-word, joined, stretched, up-line, down-line, seen};
@@ -41,7 +42,7 @@ fn left_of(x: u32, y: u32) -> u32
 
 // The pane as each part has it.
 fn in_first(p: Pane) -> Pane
-    requires { ⌜ 2 ≤ p .a ⌝ }
+    requires { ⌜ (2 ≤ p .a) × (p .a ≤ longest-side) ⌝ }
     ensures { λ r. ⌜ r ≡ pane-in First p ⌝ }
 {
     let e = division::even_half(p.a);
@@ -56,7 +57,7 @@ fn in_first(p: Pane) -> Pane
 }
 
 fn in_second(p: Pane) -> Pane
-    requires { ⌜ 2 ≤ p .a ⌝ }
+    requires { ⌜ (2 ≤ p .a) × (p .a ≤ longest-side) ⌝ }
     ensures { λ r. ⌜ r ≡ pane-in Second p ⌝ }
 {
     let e = division::even_half(p.a);
@@ -71,6 +72,7 @@ fn in_second(p: Pane) -> Pane
 }
 
 fn in_a(p: Pane) -> Pane
+    requires { ⌜ p .b ≤ longest-side ⌝ }
     ensures { λ r. ⌜ r ≡ pane-in Part.A p ⌝ }
 {
     let e = division::even_half(p.b);
@@ -86,7 +88,7 @@ fn in_a(p: Pane) -> Pane
 }
 
 fn in_b(p: Pane) -> Pane
-    requires { ⌜ 2 ≤ p .b ⌝ }
+    requires { ⌜ (2 ≤ p .b) × (p .b ≤ longest-side) ⌝ }
     ensures { λ r. ⌜ r ≡ pane-in B p ⌝ }
 {
     let e = division::even_half(p.b);
@@ -101,7 +103,7 @@ fn in_b(p: Pane) -> Pane
 }
 
 fn in_c(p: Pane) -> Pane
-    requires { ⌜ p .u1 ≤ p .a ⌝ }
+    requires { ⌜ (p .u1 ≤ p .a) × (p .b ≤ longest-side) ⌝ }
     ensures { λ r. ⌜ r ≡ pane-in C p ⌝ }
 {
     let e = division::even_half(p.b);

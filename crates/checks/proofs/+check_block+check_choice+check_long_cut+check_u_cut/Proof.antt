@@ -252,7 +252,7 @@ check-choice-returns-5 : (t : ℕ) → check-choice-lts.Need-returns-5 (check-ch
 check-choice-returns-5 t c = c .check-u-cut .ensures
 
 check-long-cut-even-half-requires : (t : ℕ) → check-long-cut-lts.Need-even-half-requires (check-long-cut-calls t) (check-long-cut-at t) check-long-cut.Post
-check-long-cut-even-half-requires t c κs = tt
+check-long-cut-even-half-requires t c κs = a-limit _ (part-asks (c .before .pre) .0)
 
 check-long-cut-mul-to-second : (t : ℕ) → check-long-cut-lts.Need-mul-to-second (check-long-cut-calls t) (check-long-cut-at t) check-long-cut.Post
 check-long-cut-mul-to-second t c = record { fits = second-number (c .before .before .before .pre) (c .before .even-half .ensures) .0 }
@@ -318,7 +318,7 @@ check-long-cut-returns-2 t c =
     (near .long-part .ensures) (far .long-part2 .ensures) (first .check-block .ensures) (c .check-block2 .ensures)
 
 check-u-cut-even-half-requires : (t : ℕ) → check-u-cut-lts.Need-even-half-requires (check-u-cut-calls t) (check-u-cut-at t) check-u-cut.Post
-check-u-cut-even-half-requires t c κs = tt
+check-u-cut-even-half-requires t c κs = b-limit _ (part-asks (c .before .pre) .0)
 
 check-u-cut-mul-to-b : (t : ℕ) → check-u-cut-lts.Need-mul-to-b (check-u-cut-calls t) (check-u-cut-at t) check-u-cut.Post
 check-u-cut-mul-to-b t c = record { fits = u-numbers (c .before .before .before .pre) (c .before .even-half .ensures) .in-a }

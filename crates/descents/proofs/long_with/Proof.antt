@@ -15,6 +15,9 @@ use Rattle.descents.proofs.PartWithNumber.{rest-of, long-enters}
 use Rattle.descents.proofs.long_with.Statement.{statement}
 use Rattle.descents.proofs.long_with.Tie as tie
 
+even-half-requires : tie.Need-even-half-requires
+even-half-requires c κs = a-limit (block (c .args .k)) (c .pre .0)
+
 mul-second : tie.Need-mul-second
 mul-second c =
     let k = c .before .before .args .k in
@@ -57,4 +60,4 @@ returns c =
 pub long-with-spec : {M : Type 1} → statement M
 long-with-spec =
     tie.close
-    (tie.spec (λ c κs. search needs) mul-second long-part-requires (λ c κs. search needs) mul-t7 sub-t8 returns)
+    (tie.spec even-half-requires mul-second long-part-requires (λ c κs. search needs) mul-t7 sub-t8 returns)

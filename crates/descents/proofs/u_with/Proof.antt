@@ -2,9 +2,13 @@
 use borrow.Author.Needs.{needs}
 use native.Mathlib.Omega.{arith}
 use Rattle.division.specs.Forms.{block}
+use Rattle.division.proofs.Walks.{b-limit}
 use Rattle.descents.proofs.PartWithNumber.{block-sums, a-enters, b-enters, c-enters}
 use Rattle.descents.proofs.u_with.Statement.{statement}
 use Rattle.descents.proofs.u_with.Tie as tie
+
+even-half-requires : tie.Need-even-half-requires
+even-half-requires c κs = b-limit (block (c .args .k)) (c .pre .0)
 
 mul-to-b : tie.Need-mul-to-b
 mul-to-b c =
@@ -67,4 +71,4 @@ returns-3 c =
 pub u-with-spec : {M : Type 1} → statement M
 u-with-spec =
     tie.close
-    (tie.spec (λ c κs. search needs) mul-to-b part-a-requires returns sub-to-c mul-to-c add-to-c part-b-requires returns-2 part-c-requires returns-3)
+    (tie.spec even-half-requires mul-to-b part-a-requires returns sub-to-c mul-to-c add-to-c part-b-requires returns-2 part-c-requires returns-3)

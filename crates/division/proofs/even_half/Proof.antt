@@ -1,4 +1,4 @@
--- `division::even_half` meets its contract: a half plus its own parity is the even half where the length is over 2.
+-- `division::even_half` meets its contract: of a length over 2 it is twice ((L + 2) div 4), which does not wrap, since L is at most 65,535.
 use borrow.Author.Needs.{needs}
 use Rattle.division.proofs.Walks.{half-small, half-large}
 use Rattle.division.proofs.even_half.Statement.{statement}
@@ -10,8 +10,11 @@ returns c = half-small (c .before .args .len) (c .if1 .taken)
 add-result : tie.Need-add-result
 add-result c = search needs
 
+mul-result : tie.Need-mul-result
+mul-result c = search needs
+
 returns-2 : tie.Need-returns-2
 returns-2 c = half-large (c .before .args .len) (c .if1 .left)
 
 pub even-half-spec : {M : Type 1} → statement M
-even-half-spec = tie.close (tie.spec returns add-result returns-2)
+even-half-spec = tie.close (tie.spec returns add-result mul-result returns-2)

@@ -3,6 +3,9 @@ use borrow.Author.Needs.{needs}
 use Rattle.division.proofs.in_c.Statement.{statement}
 use Rattle.division.proofs.in_c.Tie as tie
 
+even-half-requires : tie.Need-even-half-requires
+even-half-requires c κs = search needs
+
 sub-t4 : tie.Need-sub-t4
 sub-t4 c = search needs
 
@@ -23,4 +26,4 @@ returns c = rw (c .before .before .before .before .before .even-half .ensures)
 
 pub in-c-spec : {M : Type 1} → statement M
 in-c-spec = tie.close
-    (tie.spec (λ c κs. search needs) sub-t4 sub-t5 sub-t6 sub-t7 sub-t8 returns)
+    (tie.spec even-half-requires sub-t4 sub-t5 sub-t6 sub-t7 sub-t8 returns)

@@ -6,6 +6,9 @@ use Rattle.division.proofs.Walks.{long-spot, skip-within}
 use Rattle.division.proofs.in_long.Statement.{statement}
 use Rattle.division.proofs.in_long.Tie as tie
 
+even-half-requires : tie.Need-even-half-requires
+even-half-requires c κs = search needs
+
 sub-either : tie.Need-sub-either
 sub-either c =
     let halved = c .before .before in
@@ -29,4 +32,4 @@ returns c =
 
 pub in-long-spec : {M : Type 1} → statement M
 in-long-spec = tie.close
-    (tie.spec (λ c κs. search needs) sub-either (λ c κs. search needs) (λ c κs. search needs) sub-t7 returns)
+    (tie.spec even-half-requires sub-either (λ c κs. search needs) (λ c κs. search needs) sub-t7 returns)

@@ -8,7 +8,7 @@ use Rattle.division.specs.Division.{even-half}
 use Rattle.division.proofs.Rules.{halves}
 use Rattle.division.specs.Forms.{block}
 use Rattle.division.proofs.Cases.{long-lengths}
-use Rattle.division.proofs.Walks.{steps-along, long-block}
+use Rattle.division.proofs.Walks.{a-limit, steps-along, long-block}
 use Rattle.division.proofs.long_part.Statement.{statement}
 use Rattle.division.proofs.long_part.Tie as tie
 
@@ -16,6 +16,9 @@ use Rattle.division.proofs.long_part.Tie as tie
 skip-less : (a e skip : ℕ) (second : Bool) → 2 ≤ a → e ≡ even-half a → skip ≡ cond second e 0 → skip < a
 skip-less a e skip true l p q = let half = halves a l in omega arith
 skip-less a e skip false l p q = omega arith
+
+even-half-requires : tie.Need-even-half-requires
+even-half-requires c κs = a-limit (block (c .args .k)) (c .pre .0)
 
 stepped-requires : tie.Need-stepped-requires
 stepped-requires c κs =
@@ -49,4 +52,4 @@ returns c =
 
 pub long-part-spec : {M : Type 1} → statement M
 long-part-spec = tie.close
-    (tie.spec (λ c κs. search needs) (λ c κs. search needs) stepped-requires sub-either (λ c κs. search needs) returns)
+    (tie.spec even-half-requires (λ c κs. search needs) stepped-requires sub-either (λ c κs. search needs) returns)

@@ -4,9 +4,12 @@ use native.Mathlib.Omega.{arith}
 use Rattle.division.proofs.Rules.{halves}
 use Rattle.division.specs.Forms.{block}
 use Rattle.division.proofs.Cases.{u-lengths}
-use Rattle.division.proofs.Walks.{steps-across, b-block}
+use Rattle.division.proofs.Walks.{b-limit, steps-across, b-block}
 use Rattle.division.proofs.part_b.Statement.{statement}
 use Rattle.division.proofs.part_b.Tie as tie
+
+even-half-requires : tie.Need-even-half-requires
+even-half-requires c κs = b-limit (block (c .args .k)) (c .pre .0)
 
 stepped-requires : tie.Need-stepped-requires
 stepped-requires c κs =
@@ -31,4 +34,4 @@ returns c =
 
 pub part-b-spec : {M : Type 1} → statement M
 part-b-spec = tie.close
-    (tie.spec (λ c κs. search needs) stepped-requires sub-t4 returns)
+    (tie.spec even-half-requires stepped-requires sub-t4 returns)

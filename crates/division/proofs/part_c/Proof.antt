@@ -5,9 +5,12 @@ use Prim.Native.Nat.{_-_}
 use Rattle.division.proofs.Rules.{halves}
 use Rattle.division.specs.Forms.{block}
 use Rattle.division.proofs.Cases.{u-lengths}
-use Rattle.division.proofs.Walks.{steps-along, steps-across, c-block}
+use Rattle.division.proofs.Walks.{b-limit, steps-along, steps-across, c-block}
 use Rattle.division.proofs.part_c.Statement.{statement}
 use Rattle.division.proofs.part_c.Tie as tie
+
+even-half-requires : tie.Need-even-half-requires
+even-half-requires c κs = b-limit (block (c .args .k)) (c .pre .0)
 
 sub-stepped : tie.Need-sub-stepped
 sub-stepped c =
@@ -47,4 +50,4 @@ returns c =
 
 pub part-c-spec : {M : Type 1} → statement M
 part-c-spec = tie.close
-    (tie.spec (λ c κs. search needs) sub-stepped stepped-requires sub-stepped-2 stepped-requires-2 sub-t10 returns)
+    (tie.spec even-half-requires sub-stepped stepped-requires sub-stepped-2 stepped-requires-2 sub-t10 returns)

@@ -259,7 +259,7 @@ fill-choice-returns-5 : (t : ℕ) → fill-choice-lts.Need-returns-5 (fill-choic
 fill-choice-returns-5 t c = c .before .before .fill-u-cut .ensures
 
 fill-long-cut-even-half-requires : (t : ℕ) → fill-long-cut-lts.Need-even-half-requires (fill-long-cut-calls t) (fill-long-cut-at t) fill-long-cut.Post
-fill-long-cut-even-half-requires t c κs = tt
+fill-long-cut-even-half-requires t c κs = a-limit _ (part-asks (c .before .pre) .0)
 
 fill-long-cut-mul-to-second : (t : ℕ) → fill-long-cut-lts.Need-mul-to-second (fill-long-cut-calls t) (fill-long-cut-at t) fill-long-cut.Post
 fill-long-cut-mul-to-second t c = record { fits = second-number (c .before .before .before .pre) (c .before .even-half .ensures) .0 }
@@ -370,7 +370,7 @@ fill-long-cut-add-result-3 : (t : ℕ) → fill-long-cut-lts.Need-add-result-3 (
 fill-long-cut-add-result-3 t c = record { fits = let all = fill-long-cut-add-result-4 t c .fits in omega arith }
 
 fill-u-cut-even-half-requires : (t : ℕ) → fill-u-cut-lts.Need-even-half-requires (fill-u-cut-calls t) (fill-u-cut-at t) fill-u-cut.Post
-fill-u-cut-even-half-requires t c κs = tt
+fill-u-cut-even-half-requires t c κs = b-limit _ (part-asks (c .before .pre) .0)
 
 fill-u-cut-mul-to-b : (t : ℕ) → fill-u-cut-lts.Need-mul-to-b (fill-u-cut-calls t) (fill-u-cut-at t) fill-u-cut.Post
 fill-u-cut-mul-to-b t c = record { fits = u-numbers (c .before .before .before .pre) (c .before .even-half .ensures) .in-a }

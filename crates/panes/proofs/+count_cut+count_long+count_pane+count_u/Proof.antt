@@ -260,12 +260,12 @@ count-cut-returns-5 : (t : ℕ) → count-cut-lts.Need-returns-5 (count-cut-call
 count-cut-returns-5 t c = c .count-u .ensures
 
 count-long-even-half-requires : (t : ℕ) → count-long-lts.Need-even-half-requires (count-long-calls t) (count-long-at t) count-long.Post
-count-long-even-half-requires t c κs = tt
+count-long-even-half-requires t c κs = c .pre .1 .0 .a-limit
 
 count-long-in-first-requires : (t : ℕ) → count-long-lts.Need-in-first-requires (count-long-calls t) (count-long-at t) count-long.Post
 count-long-in-first-requires t c κs =
     let start = c .before in
-    long-two (start .pre) .0
+    (long-two (start .pre) .0, start .pre .1 .0 .a-limit)
 
 count-long-count-pane-requires : (t : ℕ) → count-long-lts.Need-count-pane-requires (count-long-calls t) (count-long-at t) count-long.Post
 count-long-count-pane-requires t c κs =
@@ -275,7 +275,7 @@ count-long-count-pane-requires t c κs =
 count-long-in-second-requires : (t : ℕ) → count-long-lts.Need-in-second-requires (count-long-calls t) (count-long-at t) count-long.Post
 count-long-in-second-requires t c κs =
     let start = c .before .before .before in
-    long-two (start .pre) .0
+    (long-two (start .pre) .0, start .pre .1 .0 .a-limit)
 
 count-long-mul-count-pane : (t : ℕ) → count-long-lts.Need-mul-count-pane (count-long-calls t) (count-long-at t) count-long.Post
 count-long-mul-count-pane t c =
@@ -366,7 +366,7 @@ count-pane-returns-4 : (t : ℕ) → count-pane-lts.Need-returns-4 (count-pane-c
 count-pane-returns-4 t c = c .count-cut .ensures
 
 count-u-even-half-requires : (t : ℕ) → count-u-lts.Need-even-half-requires (count-u-calls t) (count-u-at t) count-u.Post
-count-u-even-half-requires t c κs = tt
+count-u-even-half-requires t c κs = c .pre .1 .0 .b-limit
 
 count-u-mul-to-b : (t : ℕ) → count-u-lts.Need-mul-to-b (count-u-calls t) (count-u-at t) count-u.Post
 count-u-mul-to-b t c =
@@ -408,7 +408,7 @@ count-u-add-to-c t c =
     record { fits = omega arith }
 
 count-u-in-a-requires : (t : ℕ) → count-u-lts.Need-in-a-requires (count-u-calls t) (count-u-at t) count-u.Post
-count-u-in-a-requires t c κs = tt
+count-u-in-a-requires t c κs = c .before .before .before .before .pre .1 .0 .b-limit
 
 count-u-count-pane-requires : (t : ℕ) → count-u-lts.Need-count-pane-requires (count-u-calls t) (count-u-at t) count-u.Post
 count-u-count-pane-requires t c κs =
@@ -419,7 +419,7 @@ count-u-count-pane-requires t c κs =
 count-u-in-b-requires : (t : ℕ) → count-u-lts.Need-in-b-requires (count-u-calls t) (count-u-at t) count-u.Post
 count-u-in-b-requires t c κs =
     let start = c .before .before .before .before .before .before in
-    u-two (start .pre) .1
+    (u-two (start .pre) .1, start .pre .1 .0 .b-limit)
 
 count-u-count-pane-requires-2 : (t : ℕ) → count-u-lts.Need-count-pane-requires-2 (count-u-calls t) (count-u-at t) count-u.Post
 count-u-count-pane-requires-2 t c κs =
@@ -434,7 +434,7 @@ count-u-in-c-requires : (t : ℕ) → count-u-lts.Need-in-c-requires (count-u-ca
 count-u-in-c-requires t c κs =
     let at-struct-known = c .before .before .before .before .before .before in
     let start = at-struct-known .before .before in
-    start .pre .1 .0 .u-limit
+    (start .pre .1 .0 .u-limit, start .pre .1 .0 .b-limit)
 
 count-u-count-pane-requires-3 : (t : ℕ) → count-u-lts.Need-count-pane-requires-3 (count-u-calls t) (count-u-at t) count-u.Post
 count-u-count-pane-requires-3 t c κs =

@@ -314,12 +314,12 @@ write-cut-returns-5 t c =
     at-write-u .write-u .ensures
 
 write-long-even-half-requires : (t : ℕ) → write-long-lts.Need-even-half-requires (write-long-calls t) (write-long-at t) write-long.Post
-write-long-even-half-requires t c κs = tt
+write-long-even-half-requires t c κs = c .before .pre .1 .0 .a-limit
 
 write-long-in-first-requires : (t : ℕ) → write-long-lts.Need-in-first-requires (write-long-calls t) (write-long-at t) write-long.Post
 write-long-in-first-requires t c κs =
     let start = c .before .before .before in
-    long-two (cut-of (start .pre)) .0
+    (long-two (cut-of (start .pre)) .0, start .pre .1 .0 .a-limit)
 
 write-long-write-pane-requires : (t : ℕ) → write-long-lts.Need-write-pane-requires (write-long-calls t) (write-long-at t) write-long.Post
 write-long-write-pane-requires t c κs =
@@ -333,7 +333,7 @@ write-long-in-second-requires : (t : ℕ) → write-long-lts.Need-in-second-requ
 write-long-in-second-requires t c κs =
     let at-even-half = c .before .before .before .before .before .before in
     let start = at-even-half .before .before in
-    long-two (cut-of (start .pre)) .0
+    (long-two (cut-of (start .pre)) .0, start .pre .1 .0 .a-limit)
 
 write-long-mul-write-pane : (t : ℕ) → write-long-lts.Need-mul-write-pane (write-long-calls t) (write-long-at t) write-long.Post
 write-long-mul-write-pane t c =
@@ -460,7 +460,7 @@ write-pane-returns-4 t c =
     at-write-cut .write-cut .ensures
 
 write-u-even-half-requires : (t : ℕ) → write-u-lts.Need-even-half-requires (write-u-calls t) (write-u-at t) write-u.Post
-write-u-even-half-requires t c κs = tt
+write-u-even-half-requires t c κs = c .before .pre .1 .0 .b-limit
 
 write-u-mul-to-b : (t : ℕ) → write-u-lts.Need-mul-to-b (write-u-calls t) (write-u-at t) write-u.Post
 write-u-mul-to-b t c =
@@ -502,7 +502,7 @@ write-u-add-to-c t c =
     record { fits = omega arith }
 
 write-u-in-a-requires : (t : ℕ) → write-u-lts.Need-in-a-requires (write-u-calls t) (write-u-at t) write-u.Post
-write-u-in-a-requires t c κs = tt
+write-u-in-a-requires t c κs = c .before .before .before .before .before .before .pre .1 .0 .b-limit
 
 write-u-write-pane-requires : (t : ℕ) → write-u-lts.Need-write-pane-requires (write-u-calls t) (write-u-at t) write-u.Post
 write-u-write-pane-requires t c κs =
@@ -516,7 +516,7 @@ write-u-in-b-requires : (t : ℕ) → write-u-lts.Need-in-b-requires (write-u-ca
 write-u-in-b-requires t c κs =
     let at-struct-known3 = c .before .before .before .before .before .before in
     let start = at-struct-known3 .before .before .before .before .before in
-    u-two (cut-of (start .pre)) .1
+    (u-two (cut-of (start .pre)) .1, start .pre .1 .0 .b-limit)
 
 write-u-write-pane-requires-2 : (t : ℕ) → write-u-lts.Need-write-pane-requires-2 (write-u-calls t) (write-u-at t) write-u.Post
 write-u-write-pane-requires-2 t c κs =
@@ -538,7 +538,7 @@ write-u-in-c-requires t c κs =
     let at-slice-known2 = c .before .before .before .before .before .before in
     let at-struct-known2 = at-slice-known2 .before .before .before .before .before .before in
     let start = at-struct-known2 .before .before .before .before in
-    start .pre .1 .0 .u-limit
+    (start .pre .1 .0 .u-limit, start .pre .1 .0 .b-limit)
 
 write-u-write-pane-requires-3 : (t : ℕ) → write-u-lts.Need-write-pane-requires-3 (write-u-calls t) (write-u-at t) write-u.Post
 write-u-write-pane-requires-3 t c κs =

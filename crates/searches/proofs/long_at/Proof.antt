@@ -30,7 +30,7 @@ before-fits {s} r u =
     omega arith
 
 in-long-requires : tie.Need-in-long-requires
-in-long-requires c κs = (long-two (c .args .s) (c .args .before) (c .pre .0) (c .pre .1) .0, c .pre .0 .along)
+in-long-requires c κs = (long-two (c .args .s) (c .args .before) (c .pre .0) (c .pre .1) .0, c .pre .0 .along, c .pre .0 .a-limit)
 
 sub-t4 : tie.Need-sub-t4
 sub-t4 c = spot-less (c .before .before .before .args .s) (c .before .before .in-long .result) (c .before .before .in-long .ensures)

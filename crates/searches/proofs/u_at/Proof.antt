@@ -7,6 +7,9 @@ use Rattle.searches.proofs.PartWithSquare.{u-two, spot-sums, a-leads, b
 use Rattle.searches.proofs.u_at.Statement.{statement}
 use Rattle.searches.proofs.u_at.Tie as tie
 
+even-half-requires : tie.Need-even-half-requires
+even-half-requires c κs = c .pre .0 .b-limit
+
 mul-to-b : tie.Need-mul-to-b
 mul-to-b c =
     let start = c .before .before in
@@ -19,8 +22,11 @@ in-b-requires : tie.Need-in-b-requires
 in-b-requires c κs =
     let half = c .before .before .before in
     let start = half .before in
-    let s = start .args .s in
-    (u-two s (start .args .before) (start .pre .0) (start .pre .1) .1, subst (λ (n : ℕ). n ≤ s .v) (half .even-half .ensures) (c .if1 .taken))
+    let s = start .args .s in (
+      u-two s (start .args .before) (start .pre .0) (start .pre .1) .1,
+      subst (λ (n : ℕ). n ≤ s .v) (half .even-half .ensures) (c .if1 .taken),
+      start .pre .0 .b-limit,
+    )
 
 add-t10 : tie.Need-add-t10
 add-t10 c =
@@ -44,6 +50,9 @@ returns-2 c =
     let start = half .before in
     a-leads (start .args .s) (start .args .before) (start .pre .0) (start .pre .1) (half .even-half .result) (half .even-half .ensures) (c .in-a .result)
     (c .in-a .ensures) (first-test .if1 .left) (c .before .if2 .taken)
+
+in-a-requires : tie.Need-in-a-requires
+in-a-requires c κs = search needs
 
 in-c-requires : tie.Need-in-c-requires
 in-c-requires c κs = search needs
@@ -95,5 +104,5 @@ returns-3 c =
 pub u-at-spec : {M : Type 1} → statement M
 u-at-spec =
     tie.close
-    (tie.spec (λ c κs. search needs) mul-to-b in-b-requires add-t10 returns (λ c κs. search needs) returns-2 in-c-requires add-t8 sub-t11 mul-t12
+    (tie.spec even-half-requires mul-to-b in-b-requires add-t10 returns in-a-requires returns-2 in-c-requires add-t8 sub-t11 mul-t12
     add-t13 returns-3)
