@@ -1,5 +1,6 @@
 // boundary SEED: the library's C functions against the independent reading of documents 01 and 02: every area up to 40 by 40 whole, the finish square of every
-// area up to 300 by 300, and random and hostile arguments by the hundred thousand. The seed is printed, and what was asked, where an answer differs.
+// area up to 300 by 300, the even half of every length, and random and hostile arguments by the hundred thousand. The seed is printed, and what was asked,
+// where an answer differs.
 mod expected;
 #[allow(dead_code)] // the way down to a number is not needed here
 mod independent;
@@ -141,6 +142,19 @@ fn worked_cases() {
     }
 }
 
+// Document 02's even half of every length above 3, as the lookups show it: an area 3 wide begins with part A, one column up to the even half of its height,
+// which is straight and so lies in 2 blocks. The square above it is the first of B, which is cut again.
+fn even_halves() {
+    for length in 4..=65535 {
+        let half = 2 * ((length + 2) / 4);
+        let (last, first) = (number_to_square(3, length, half - 1, 3), number_to_square(3, length, half, 3));
+        assert_eq!(last, (0, vec![0, half as u64 - 1, 2]), "the last square of part A of 3 by {length}");
+        assert_eq!(first.1[..2], [0, half as u64], "the first square of part B of 3 by {length}");
+        assert!(first.1[2] > 2, "the first square of part B of 3 by {length} lies in over 2 blocks");
+        assert_eq!(square_to_number(3, length, 0, half - 1, 2), (0, vec![half as u64 - 1, 2]), "the number of that last square of 3 by {length}");
+    }
+}
+
 // A side of an area: an end of the range, past it, or anything.
 fn side(random: &mut Random) -> u32 {
     match random.below(4) {
@@ -215,6 +229,7 @@ fn main() {
     println!("boundary: seed {seed}");
     let mut random = Random::from(seed);
     worked_cases();
+    even_halves();
     long_lengths();
     for w in 1..=40 {
         for h in 1..=40 {
