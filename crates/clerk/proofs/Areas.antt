@@ -16,9 +16,9 @@ use Rattle.lines.specs.declared.Request.{Request}
 use Rattle.lines.specs.declared.Request as Requests
 use Rattle.lines.specs.declared.Request.the-variants.{SetArea, AskNumber, AskSquare}
 use Rattle.words.specs.Words.{begins, same-bytes}
-use Rattle.lines.specs.Lines.{AREA, N, S, request}
+use Rattle.lines.specs.Lines.{AREA, request, Says-two, Says}
 use Rattle.words.proofs.Same.{same-itself, same-true}
-use Rattle.lines.proofs.Asking.{with-one, with-two, Says, says-so, area-spelt}
+use Rattle.lines.proofs.Asking.{says-so, area-spelt}
 use Rattle.clerk.specs.declared.Clerk.{Clerk}
 use Rattle.clerk.specs.declared.Clerk.the-variants.{NoArea, InForce}
 use Rattle.clerk.specs.Clerk as spec
@@ -99,7 +99,7 @@ other-letter line said other is area = other (ap (λ s. getD s 0 0) (sym is) ∙
 pub record Sets (clerk : Clerk) (line : List ℕ) : Type 0 where
   pub w : ℕ
   pub h : ℕ
-  pub says : line ≡ with-two AREA w h
+  pub says : Says-two AREA w h line
   pub within : accepted w h ≡ true
   pub set : spec.after clerk line ≡ InForce (record { w = w; h = h })
 
@@ -118,8 +118,8 @@ module _ (clerk : Clerk) (line : List ℕ) where
   refused-by : (q : Request) → Says q line → take 4 line ≡ AREA → spec.reply-to clerk q .word ≡ spec.Refused
       → spec.clerk-after clerk (begins line AREA) q ≡ NoArea
   refused-by (SetArea w h) b area e = rw (refused-set w h e) refl
-  refused-by (AskNumber i) b area e = absurd (other-letter line (with-one N i) (λ z. omega arith) b area)
-  refused-by (AskSquare x y) b area e = absurd (other-letter line (with-two S x y) (λ z. omega arith) b area)
+  refused-by (AskNumber i) b area e = absurd (other-letter line _ (λ z. omega arith) (b .is) area)
+  refused-by (AskSquare x y) b area e = absurd (other-letter line _ (λ z. omega arith) (b .is) area)
   refused-by (Requests.the-variants.Refused r) b area e = rw (begins-is area) refl
 
   pub refused-leaves-none : take 4 line ≡ AREA → spec.reply clerk line .word ≡ spec.Refused → spec.after clerk line ≡ NoArea
@@ -128,7 +128,7 @@ module _ (clerk : Clerk) (line : List ℕ) where
 
   -- "No other line alters the area": a line that does not begin so leaves the clerk as it was.
   other-by : (q : Request) → Says q line → (take 4 line ≡ AREA → ⊥) → spec.clerk-after clerk (begins line AREA) q ≡ clerk
-  other-by (SetArea w h) b other = absurd (other (ap (take 4) b))
+  other-by (SetArea w h) b other = absurd (other (ap (take 4) (b .is)))
   other-by (AskNumber i) b other = refl
   other-by (AskSquare x y) b other = refl
   other-by (Requests.the-variants.Refused r) b other = rw (begins-not other) refl
@@ -143,19 +143,20 @@ module _ (clerk : Clerk) (line : List ℕ) where
   accepted-by (SetArea w h) is b area e =
       let ok = answered-set w h e in
       record { w = w; h = h; says = b; within = ok; set = ap (spec.clerk-after clerk (begins line AREA)) is ∙ rw ok refl }
-  accepted-by (AskNumber i) is b area e = absurd (other-letter line (with-one N i) (λ z. omega arith) b area)
-  accepted-by (AskSquare x y) is b area e = absurd (other-letter line (with-two S x y) (λ z. omega arith) b area)
+  accepted-by (AskNumber i) is b area e = absurd (other-letter line _ (λ z. omega arith) (b .is) area)
+  accepted-by (AskSquare x y) is b area e = absurd (other-letter line _ (λ z. omega arith) (b .is) area)
   accepted-by (Requests.the-variants.Refused r) is b area e = absurd (e refl)
 
   pub accepted-sets : take 4 line ≡ AREA → (spec.reply clerk line .word ≡ spec.Refused → ⊥) → Sets clerk line
   unfolding spec.reply
   accepted-sets = accepted-by (request line) refl (says-so line)
 
--- So the line `AREA w h` of every area within the limit sets that area, whatever was in force.
-pub area-line-sets : (clerk : Clerk) (w h : ℕ) → accepted w h ≡ true → spec.after clerk (with-two AREA w h) ≡ InForce (record { w = w; h = h })
+-- So the line `AREA w h` of every area within the limit, in whichever spellings, sets that area, whatever was in force.
+pub area-line-sets : (clerk : Clerk) (w h : ℕ) → accepted w h ≡ true → (line : List ℕ) → Says-two AREA w h line
+    → spec.after clerk line ≡ InForce (record { w = w; h = h })
 unfolding spec.after
-area-line-sets clerk w h ok =
+area-line-sets clerk w h ok line says =
     let all = limits w h ok in
     let wide = all .w-most in
     let high = all .h-most in
-    ap (spec.clerk-after clerk (begins (with-two AREA w h) AREA)) (area-spelt w h (omega arith) (omega arith)) ∙ rw ok refl
+    ap (spec.clerk-after clerk (begins line AREA)) (area-spelt w h (omega arith) (omega arith) line says) ∙ rw ok refl

@@ -1,6 +1,6 @@
 -- Order lines worked by hand, as one table under one claim, which computes: those that document 01 gives under "Order lines", "Squares worked by hand" and
--- "Errors a good programmer makes here", and for each of its sentences on lines some of our own; and AREA lines with document 02's finish squares. Here stand
--- refusals, by their numbers and in their order, and the area in force after each line; what a line N or S says is the call's own (`cell-replied`,
+-- "Errors a good programmer makes here", and for each of its sentences on lines some of our own; AREA lines with document 02's finish squares, and its order 4.
+-- Here stand refusals, by their numbers and in their order, and the area in force after each line; what a line N or S says is the call's own (`cell-replied`,
 -- `number-replied`), and so is the finish square of an area that is too large to list (`area-replied`).
 use mathlib.Core.Bool.{Bool, true, false, _&&_}
 use mathlib.Core.List.{List, [], _∷_, _++_}
@@ -144,6 +144,23 @@ worked =
     ∷ stays "S 4294967295 0" 2
     ∷ stays "S 07 0" 5
     ∷ stays "S 0 3E4" 5
+    -- document 02, order 4: "A field of exactly ten digits may now begin with zeros; shorter fields keep the old rule"; "5 narrows as said; the order stays"
+    ∷ sets "AREA 0000000003 0000000004" 3 4 12 2 0
+    ∷ sets "AREA 3 0000000004" 3 4 12 2 0
+    ∷ clears "AREA 0000065536 0000000001" 1
+    ∷ clears "AREA 000000003 4" 5
+    ∷ clears "AREA 3 00000000004" 5
+    ∷ clears "AREA 0000000003" 6
+    ∷ stays "N 0000000012" 3
+    ∷ stays "N 000000011" 5
+    ∷ stays "N 0000000011 " 6
+    ∷ stays "N 00000003E4" 5
+    ∷ stays "S 0000000003 0000000000" 2
+    ∷ stays "S 0 0000000004" 2
+    ∷ stays "S 000000000 0" 5
+    ∷ with-none "N 0000000001" 7
+    ∷ with-none "N 000000001" 5
+    ∷ with-none "S 0000000001 0000000001" 7
     -- "An unknown first word, a missing, extra or empty field, or an empty line is refusal 6", before 5
     ∷ stays "" 6
     ∷ stays " " 6

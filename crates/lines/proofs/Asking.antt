@@ -1,5 +1,5 @@
--- What a line asks, seen from its bytes: the line that a word and numbers in decimal spell asks with that word for those numbers, and no other line does,
--- since a line is its fields with spaces between them and each number has one text. What has a wrong field is refusal 5, what has no known shape 6.
+-- What a line asks, seen from its bytes: a line that a word and numbers spell asks with that word for those numbers, and no other line does. A line of a known
+-- shape with a field that is no number is refusal 5, and one of no known shape 6. The fields of a line with spaces between them are the line.
 use mathlib.Core.Bool.{Bool, true, false, not, cond, _&&_, _||_, and-eq-true-iff}
 use mathlib.Core.List.{List, [], _∷_, _++_}
 use mathlib.Core.Path.{_≡_, refl, sym, ap, ap₂, subst, subst⁻¹, _∙_}
@@ -13,21 +13,15 @@ use Rattle.words.specs.declared.Numeral.{Numeral}
 use Rattle.words.specs.declared.Numeral.the-variants.{Value, NoNumber}
 use Rattle.lines.specs.declared.Request.{Request}
 use Rattle.lines.specs.declared.Request.the-variants.{SetArea, AskNumber, AskSquare, Refused}
-use Rattle.words.specs.Words.{largest-number, is-digit, all-digits, numeral, same-bytes}
-use Rattle.lines.specs.Lines.{onto, fields, AREA, N, S, is-empty, by-one, by-two, of-two, two-fields, three-fields, shaped, request}
-use Rattle.words.specs.Decimal.{decimal}
+use Rattle.words.specs.Words.{largest-number, is-digit, all-digits, numeral, Spelling, same-bytes}
+use Rattle.lines.specs.Lines.{onto, fields, AREA, N, S, is-empty, by-one, by-two, of-two, two-fields, three-fields, shaped, request, asked}
+use Rattle.lines.specs.Lines.{Says-two, Says}
 use Rattle.lines.specs.Reading.{word}
-use Rattle.words.proofs.Decimals.{read-back, only-text, reads, ten-digits}
+use Rattle.words.proofs.Decimals.{Reads, reads}
+use Rattle.words.proofs.Spellings.{read-so, two-spellings}
 use Rattle.words.proofs.Same.{same-true}
 use Rattle.lines.proofs.Shapes.{not-empty}
 use Rattle.lines.proofs.Sequence.{rest, fields-are}
-
--- A word with one number, and with two, after it: the lines `N i`, `AREA w h` and `S x y`, spelt.
-abbrev pub with-one : List ℕ → ℕ → List ℕ
-with-one known n = known ++ (32 ∷ decimal n)
-
-abbrev pub with-two : List ℕ → ℕ → ℕ → List ℕ
-with-two known n m = known ++ (32 ∷ (decimal n ++ (32 ∷ decimal m)))
 
 -- Fields with a space between each two.
 unfoldable pub between : List (List ℕ) → List ℕ
@@ -52,13 +46,7 @@ between-fields (b ∷ s) = by (eqb b 32) refl (between-fields s)
         ap (λ fs. between ([] ∷ fs)) (fields-are s) ∙ ap₂ (λ c zs. c ∷ zs) (sym (eqb-true b 32 e)) (ap between (sym (fields-are s)) ∙ joined)
     by false e joined = before-first b (fields s) ∙ ap (λ zs. b ∷ zs) joined
 
--- What a line says that asks so: the shape's word and its numbers in decimal, and nothing else.
-abbrev pub Says : Request → List ℕ → Type 0
-Says (SetArea w h) line = line ≡ with-two AREA w h
-Says (AskNumber i) line = line ≡ with-one N i
-Says (AskSquare x y) line = line ≡ with-two S x y
-Says (Refused r) line = Unit {0}
-
+-- what a line asks by its fields it says in one of its spellings
 module _ (line first : List ℕ) where
   two-say : (a : List ℕ) → line ≡ first ++ (32 ∷ a) → Says (two-fields first a) line
   two-say a is = by (same-bytes first N) (is-empty a) (numeral a) refl refl
@@ -68,11 +56,12 @@ module _ (line first : List ℕ) where
       by false none n e f = tt
       by true true n e f = tt
       by true false NoNumber e f = tt
-      by true false (Value i) e f = is ∙ ap₂ (λ w g. w ++ (32 ∷ g)) (same-true first N e) (only-text a i f)
+      by true false (Value i) e f =
+          record { field = a; spelt = two-spellings a i f; is = is ∙ ap (λ w. w ++ (32 ∷ a)) (same-true first N e) }
 
   -- AREA and S alike: what is asked with two numbers is said by the word and them
   module _ (a b : List ℕ) (is : line ≡ first ++ (32 ∷ (a ++ (32 ∷ b)))) where
-    both-say : (known : List ℕ) (asked : ℕ → ℕ → Request) → same-bytes first known ≡ true → ((x y : ℕ) → line ≡ with-two known x y → Says (asked x y) line)
+    both-say : (known : List ℕ) (asked : ℕ → ℕ → Request) → same-bytes first known ≡ true → ((x y : ℕ) → Says-two known x y line → Says (asked x y) line)
         → Says (of-two asked a b) line
     both-say known asked e said = by (is-empty a || is-empty b) (numeral a) (numeral b) refl refl
       where
@@ -81,7 +70,14 @@ module _ (line first : List ℕ) where
         by false NoNumber n f g = tt
         by false (Value x) NoNumber f g = tt
         by false (Value x) (Value y) f g =
-            said x y (is ∙ ap₂ (λ w t. w ++ (32 ∷ t)) (same-true first known e) (ap₂ (λ c d. c ++ (32 ∷ d)) (only-text a x f) (only-text b y g)))
+            said x y
+            record {
+              first = a;
+              second = b;
+              first-spelt = two-spellings a x f;
+              second-spelt = two-spellings b y g;
+              is = is ∙ ap (λ w. w ++ (32 ∷ (a ++ (32 ∷ b)))) (same-true first known e);
+            }
 
     three-say : Says (three-fields first a b) line
     three-say = by (same-bytes first AREA) (same-bytes first S) refl refl
@@ -99,7 +95,7 @@ module _ (line first : List ℕ) where
   shape-says (a ∷ b ∷ []) is = three-say a b is
   shape-says (a ∷ b ∷ c ∷ others) is = tt
 
--- A line says what it asks, in one spelling: no other line asks for it.
+-- A line says what it asks, in one of its spellings: no other line asks for it.
 pub says-so : (line : List ℕ) → Says (request line) line
 unfolding request
 says-so line = by (leb (length line) 64)
@@ -281,30 +277,43 @@ unshaped-line line l unshaped =
     (ap shaped (fields-are line)
     ∙ no-shape line (word line) unshaped (rest line) (all .1) (sym (between-fields line) ∙ ap between (fields-are line)))
 
--- `N i`, `AREA w h` and `S x y`, spelt, ask for these numbers.
-module _ (n : ℕ) (most : n ≤ largest-number) where
-  decimal-filled : Filled (decimal n)
-  decimal-filled =
-      let r = reads (decimal n) n (read-back n most) in
-      record { some = r .some; whole = digits-spaceless (decimal n) (r .digits) }
+-- a spelling of a number is a field of its own, and short
+module _ {f : List ℕ} {n : ℕ} (most : n ≤ largest-number) (spelt : Spelling f n) where
+  read-spelt : Reads f n
+  read-spelt = reads f n (read-so f n most spelt)
 
-  pub number-spelt : request (with-one N n) ≡ AskNumber n
-  number-spelt = number-line (decimal n) decimal-filled (let few = ten-digits n (omega arith) in omega arith) .0 n (read-back n most)
+  spelt-filled : Filled f
+  spelt-filled = record { some = read-spelt .some; whole = digits-spaceless f (read-spelt .digits) }
+
+-- `N i`, `AREA w h` and `S x y`, in whichever spellings, ask for these numbers.
+pub number-spelt : (line : List ℕ) (n : ℕ) → n ≤ largest-number → Says (AskNumber n) line → request line ≡ AskNumber n
+number-spelt line n most s =
+    let few = read-spelt most (s .spelt) .few in
+    ap request (s .is)
+    ∙ number-line (s .field) (spelt-filled most (s .spelt)) (omega arith) .0 n (read-so (s .field) n most (s .spelt))
 
 module _ (n m : ℕ) (most : n ≤ largest-number) (most′ : m ≤ largest-number) where
-  few : length (decimal n ++ (32 ∷ decimal m)) ≤ 21
-  few =
-      let one = ten-digits n (omega arith) in
-      let other = ten-digits m (omega arith) in
-      let size = length-append (decimal n) (32 ∷ decimal m) in
+  few : (known line : List ℕ) (s : Says-two known n m line) → length (s .first ++ (32 ∷ s .second)) ≤ 21
+  few known line s =
+      let one = read-spelt most (s .first-spelt) .few in
+      let other = read-spelt most′ (s .second-spelt) .few in
+      let size = length-append (s .first) (32 ∷ s .second) in
       omega arith
 
-  pub area-spelt : request (with-two AREA n m) ≡ SetArea n m
-  area-spelt =
-      let room = few in
-      area-line (decimal n) (decimal m) (decimal-filled n most) (decimal-filled m most′) (omega arith) .0 n m (read-back n most) (read-back m most′)
+  pub area-spelt : (line : List ℕ) → Says (SetArea n m) line → request line ≡ SetArea n m
+  area-spelt line s =
+      let room = few AREA line s in
+      ap request (s .is)
+      ∙ area-line (s .first) (s .second) (spelt-filled most (s .first-spelt)) (spelt-filled most′ (s .second-spelt)) (omega arith) .0 n m
+      (read-so (s .first) n most (s .first-spelt)) (read-so (s .second) m most′ (s .second-spelt))
 
-  pub square-spelt : request (with-two S n m) ≡ AskSquare n m
-  square-spelt =
-      let room = few in
-      square-line (decimal n) (decimal m) (decimal-filled n most) (decimal-filled m most′) (omega arith) .0 n m (read-back n most) (read-back m most′)
+  pub square-spelt : (line : List ℕ) → Says (AskSquare n m) line → request line ≡ AskSquare n m
+  square-spelt line s =
+      let room = few S line s in
+      ap request (s .is)
+      ∙ square-line (s .first) (s .second) (spelt-filled most (s .first-spelt)) (spelt-filled most′ (s .second-spelt)) (omega arith) .0 n m
+      (read-so (s .first) n most (s .first-spelt)) (read-so (s .second) m most′ (s .second-spelt))
+
+-- So the promise's two clauses agree: what a line asks it says.
+pub told-so : (line : List ℕ) {q : Request} → q ≡ request line → (asked q ≡ asked (request line)) × Says q line
+told-so line e = (ap asked e, subst⁻¹ (λ (q : Request). Says q line) e (says-so line))

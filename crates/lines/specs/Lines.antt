@@ -1,6 +1,7 @@
--- What an order line says: document 01, "Order lines", its shapes, and refusals 5, 6 and 8.
+-- What an order line says: document 01, "Order lines", its shapes, and refusals 5, 6 and 8; document 02, order 4, in which spellings it says it.
 use mathlib.Core.Bool.{Bool, true, false, cond, _||_}
-use mathlib.Core.List.{List, [], _∷_}
+use mathlib.Core.List.{List, [], _∷_, _++_}
+use mathlib.Core.Path.{_≡_}
 use Prim.Native.Nat.{ℕ}
 use lib.Dec.{leb, eqb}
 use lib.ListN.{length}
@@ -11,7 +12,7 @@ use Rattle.words.specs.declared.Numeral.the-variants.{Value, NoNumber}
 use Rattle.lines.specs.declared.Request.{Request}
 use Rattle.lines.specs.declared.Request.the-variants.{SetArea, AskNumber, AskSquare, Refused}
 use Rattle.words.specs.Letters.{bytes}
-use Rattle.words.specs.Words.{numeral, same-bytes}
+use Rattle.words.specs.Words.{numeral, Spelling, same-bytes}
 
 -- A byte put before the first of some pieces, or a piece of its own where there is none.
 abbrev pub onto : ℕ → List (List ℕ) → List (List ℕ)
@@ -84,3 +85,23 @@ asked (SetArea w h) = record { refusal = 0; word = AREA; numbers = w ∷ h ∷ [
 asked (AskNumber i) = record { refusal = 0; word = N; numbers = i ∷ [] }
 asked (AskSquare x y) = record { refusal = 0; word = S; numbers = x ∷ y ∷ [] }
 asked (Refused r) = record { refusal = refusal-number r; word = []; numbers = [] }
+
+-- "Each value .. has two spellings, and the reader's contract says which two": a line that asks for something is the shape's word and its numbers, each in
+-- one of its spellings, with a space before each, and nothing else.
+pub record Says-one (word : List ℕ) (n : ℕ) (line : List ℕ) : Type 0 where
+  pub field : List ℕ
+  pub spelt : Spelling field n
+  pub is : line ≡ word ++ (32 ∷ field)
+
+pub record Says-two (word : List ℕ) (n m : ℕ) (line : List ℕ) : Type 0 where
+  pub first : List ℕ
+  pub second : List ℕ
+  pub first-spelt : Spelling first n
+  pub second-spelt : Spelling second m
+  pub is : line ≡ word ++ (32 ∷ (first ++ (32 ∷ second)))
+
+abbrev pub Says : Request → List ℕ → Type 0
+Says (SetArea w h) line = Says-two AREA w h line
+Says (AskNumber i) line = Says-one N i line
+Says (AskSquare x y) line = Says-two S x y line
+Says (Refused r) line = Unit {0}

@@ -6,7 +6,7 @@ mod requests;
 use terms::Refusal;
 ghost use mathlib.Core.Path.{_≡_};
 ghost use Rattle.words.specs.Words.{begins};
-ghost use Rattle.lines.specs.Lines.{AREA, request, asked};
+ghost use Rattle.lines.specs.Lines.{AREA, request, asked, Says};
 
 // How many bytes a line may have.
 const MOST_BYTES: usize = 64;
@@ -28,7 +28,8 @@ pub fn begins_area(line: &[u8]) -> bool
 
 // What a line asks, whatever its bytes are.
 pub fn request_of(line: &[u8]) -> Request
-    ensures { λ r. ⌜ asked r ≡ asked (request (now (line .entry))) ⌝ }
+    ensures figures { λ r. ⌜ asked r ≡ asked (request (now (line .entry))) ⌝ }
+    ensures spelling { λ r. ⌜ Says r (now (line .entry)) ⌝ }
 {
     if MOST_BYTES < line.len() {
         return Request::Refused(Refusal::LongLine);

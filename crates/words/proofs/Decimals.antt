@@ -1,6 +1,6 @@
--- A number in decimal is read back as itself, and nothing else is read so. One digit more on the right makes ten times the value and the digit, whether it
--- is printed or read: so both go by induction over the digits; powers are needed only to count them.
-use mathlib.Core.Bool.{Bool, true, false, cond, _&&_, and-eq-true-iff}
+-- A number in decimal is read back as itself, and no other field that is begun so is read as it. One digit more on the right makes ten times the value and the
+-- digit, whether it is printed or read: so both go by induction over the digits; powers are needed only to count them.
+use mathlib.Core.Bool.{Bool, true, false, cond, _&&_, _||_, and-eq-true-iff}
 use mathlib.Core.List.{List, [], _∷_, _++_, append-nil, append-assoc}
 use mathlib.Core.Path.{_≡_, refl, sym, ap, ap₂, _∙_}
 use Prim.Native.Nat.{ℕ, zero, suc, _+_, _-_, _*_, _/_, _%_, _≤_, _<_, _^_}
@@ -11,7 +11,7 @@ use lib.Dec.{leb, ltb, eqb}
 use lib.ListN.{length, length-append, getD, List·getD-append}
 use Rattle.terms.specs.Terms.{past-32-bits}
 use Rattle.words.specs.declared.Numeral.the-variants.{Value, NoNumber}
-use Rattle.words.specs.Words.{largest-number, is-digit, all-digits, well-begun, value-on, value, is-number, numeral}
+use Rattle.words.specs.Words.{largest-number, is-digit, all-digits, well-begun, may-begin, value-on, value, is-number, numeral}
 use Rattle.words.specs.Decimal.{decimal-by, decimal}
 
 -- the digits before the last are those of the tenth part
@@ -42,7 +42,7 @@ pub digits-more : (n : ℕ) → 10 ≤ n → length (decimal n) ≡ length (deci
 digits-more n l = ap length (more-digits n l) ∙ length-append (decimal (n / 10)) ((48 + n % 10) ∷ [])
 
 -- a 32-bit number has at most ten digits
-few-digits : (k n : ℕ) → n < 10 ^ suc k → length (decimal n) ≤ suc k
+pub few-digits : (k n : ℕ) → n < 10 ^ suc k → length (decimal n) ≤ suc k
 few-digits zero n l = let one = ap length (one-digit n l) in omega arith
 few-digits (suc k) n l = by (ltb n 10) refl (few-digits k (n / 10))
   where
@@ -57,28 +57,28 @@ pub ten-digits : (n : ℕ) → n < past-32-bits → length (decimal n) ≤ 10
 ten-digits n l = few-digits 9 n (omega arith)
 
 -- digits read one after the other
-value-append : (n : ℕ) (f g : List ℕ) → value-on n (f ++ g) ≡ value-on (value-on n f) g
+pub value-append : (n : ℕ) (f g : List ℕ) → value-on n (f ++ g) ≡ value-on (value-on n f) g
 unfolding value-on
 value-append n [] g = refl
 value-append n (b ∷ f) g = value-append (n * 10 + (b - 48)) f g
 
-digits-append : (f g : List ℕ) → all-digits f ≡ true → all-digits g ≡ true → all-digits (f ++ g) ≡ true
+pub digits-append : (f g : List ℕ) → all-digits f ≡ true → all-digits g ≡ true → all-digits (f ++ g) ≡ true
 unfolding all-digits
 digits-append [] g p q = q
 digits-append (b ∷ f) g p q =
     let both = and-eq-true-iff (is-digit b) (all-digits f) .0 p in
     rw (both .0) (digits-append f g (both .1) q)
 
-a-digit : (d : ℕ) → d < 10 → all-digits ((48 + d) ∷ []) ≡ true
+pub a-digit : (d : ℕ) → d < 10 → all-digits ((48 + d) ∷ []) ≡ true
 unfolding all-digits
 a-digit d l = rw (le-leb 48 (48 + d) (omega arith), le-leb (48 + d) 57 (omega arith)) refl
 
 -- What is printed for a number: digits of that value, the first of which is not 0 unless the number is.
-record Prints (n : ℕ) (f : List ℕ) : Type 0 where
-  some : 1 ≤ length f
-  digits : all-digits f ≡ true
-  valued : value f ≡ n
-  begun : 1 ≤ n → 49 ≤ getD f 0 0
+pub record Prints (n : ℕ) (f : List ℕ) : Type 0 where
+  pub some : 1 ≤ length f
+  pub digits : all-digits f ≡ true
+  pub valued : value f ≡ n
+  pub begun : 1 ≤ n → 49 ≤ getD f 0 0
 
 prints-one : (n : ℕ) → n < 10 → Prints n ((48 + n) ∷ [])
 unfolding value-on
@@ -107,7 +107,7 @@ prints-to (suc k) n l = by (ltb n 10) refl (prints-to k (n / 10))
     by true e rest = rw (one-digit n (ltb-true n 10 e)) (prints-one n (ltb-true n 10 e))
     by false e rest = let large = ltb-false n 10 e in rw (more-digits n large) (prints-more n large (rest (omega arith)))
 
-prints : (n : ℕ) → Prints n (decimal n)
+pub prints : (n : ℕ) → Prints n (decimal n)
 prints n = prints-to n n (le-refl n)
 
 well-begun-from : (f : List ℕ) → 49 ≤ getD f 0 0 → well-begun f ≡ true
@@ -115,12 +115,20 @@ well-begun-from [] l = refl
 well-begun-from (b ∷ []) l = refl
 well-begun-from (b ∷ c ∷ f) l = rw (ne-eqb b 48 (λ e. omega arith)) refl
 
-printed-begun : (n : ℕ) → well-begun (decimal n) ≡ true
+pub printed-begun : (n : ℕ) → well-begun (decimal n) ≡ true
 printed-begun n = by (ltb n 10) refl
   where
     by : (t : Bool) → ltb n 10 ≡ t → well-begun (decimal n) ≡ true
     by true e = rw (one-digit n (ltb-true n 10 e)) refl
     by false e = well-begun-from (decimal n) (prints n .begun (let large = ltb-false n 10 e in omega arith))
+
+-- the old rule for a field's beginning still lets it pass
+begun-passes : (f : List ℕ) → well-begun f ≡ true → may-begin f ≡ true
+begun-passes f e = by (eqb (length f) 10)
+  where
+    by : (t : Bool) → (t || well-begun f) ≡ true
+    by true = refl
+    by false = e
 
 -- What is printed for a number, up to the largest of the rule, is read as that number.
 pub read-back : (n : ℕ) → n ≤ largest-number → numeral (decimal n) ≡ Value n
@@ -130,14 +138,15 @@ read-back n l =
     let few = ten-digits n (omega arith) in
     let same = p .valued in
     let within = le-leb (value (decimal n)) largest-number (omega arith) in
-    rw (le-leb 1 (length (decimal n)) (p .some), le-leb (length (decimal n)) 10 few, p .digits, printed-begun n, within) (ap Value same)
+    let begun = begun-passes (decimal n) (printed-begun n) in
+    rw (le-leb 1 (length (decimal n)) (p .some), le-leb (length (decimal n)) 10 few, p .digits, begun, within) (ap Value same)
 
 -- What is known of a field that is read as n.
 pub record Reads (f : List ℕ) (n : ℕ) : Type 0 where
   pub some : 1 ≤ length f
   pub few : length f ≤ 10
   pub digits : all-digits f ≡ true
-  pub begun : well-begun f ≡ true
+  pub begun : may-begin f ≡ true
   pub valued : value f ≡ n
   pub most : n ≤ largest-number
 
@@ -149,8 +158,8 @@ reads f n e = by (is-number f) refl e
     by false p q = absurd (let z : _≡_ {A = ℕ} 0 1 = cc in omega arith)
     by true p q =
         let same : value f ≡ n = cc in
-        let fifth = and-eq-true-iff (leb 1 (length f) && leb (length f) 10 && all-digits f && well-begun f) (leb (value f) largest-number) .0 p in
-        let fourth = and-eq-true-iff (leb 1 (length f) && leb (length f) 10 && all-digits f) (well-begun f) .0 (fifth .0) in
+        let fifth = and-eq-true-iff (leb 1 (length f) && leb (length f) 10 && all-digits f && may-begin f) (leb (value f) largest-number) .0 p in
+        let fourth = and-eq-true-iff (leb 1 (length f) && leb (length f) 10 && all-digits f) (may-begin f) .0 (fifth .0) in
         let third = and-eq-true-iff (leb 1 (length f) && leb (length f) 10) (all-digits f) .0 (fourth .0) in
         let second = and-eq-true-iff (leb 1 (length f)) (leb (length f) 10) .0 (third .0) in
         let most = leb-true (value f) largest-number (fifth .1) in
@@ -163,11 +172,11 @@ reads f n e = by (is-number f) refl e
           most = omega arith;
         }
 
-record Digit (b : ℕ) : Type 0 where
-  low : 48 ≤ b
-  high : b ≤ 57
+pub record Digit (b : ℕ) : Type 0 where
+  pub low : 48 ≤ b
+  pub high : b ≤ 57
 
-digit : (b : ℕ) → is-digit b ≡ true → Digit b
+pub digit : (b : ℕ) → is-digit b ≡ true → Digit b
 digit b e = let both = and-eq-true-iff (leb 48 b) (leb b 57) .0 e in record { low = leb-true 48 b (both .0); high = leb-true b 57 (both .1) }
 
 -- one digit more, printed
@@ -189,7 +198,8 @@ decimal-on n (b ∷ f) l e =
     ∙ ap (λ ds. ds ++ f) (one-more n b l (digit b (both .0)))
     ∙ append-assoc (decimal n) (b ∷ []) f
 
-spelt : (f : List ℕ) → 1 ≤ length f → all-digits f ≡ true → well-begun f ≡ true → f ≡ decimal (value f)
+-- digits that begin by the old rule are their value in decimal
+pub spelt : (f : List ℕ) → 1 ≤ length f → all-digits f ≡ true → well-begun f ≡ true → f ≡ decimal (value f)
 unfolding all-digits value-on
 spelt [] l e g = absurd (omega arith)
 spelt (b ∷ []) l e g =
@@ -208,7 +218,3 @@ spelt (b ∷ c ∷ f) l e g =
     ap (λ z. z ∷ c ∷ f) same
     ∙ ap (λ ds. ds ++ (c ∷ f)) (sym (one-digit (0 * 10 + (b - 48)) (omega arith)))
     ∙ sym (decimal-on (0 * 10 + (b - 48)) (c ∷ f) (omega arith) (both .1))
-
--- It is the only text of that number that the reader takes.
-pub only-text : (f : List ℕ) (n : ℕ) → numeral f ≡ Value n → f ≡ decimal n
-only-text f n e = let r = reads f n e in spelt f (r .some) (r .digits) (r .begun) ∙ ap decimal (r .valued)

@@ -1,4 +1,5 @@
 pub mod Same
 pub mod Numerals
 pub mod Decimals
+pub mod Spellings
 pub mod Promises

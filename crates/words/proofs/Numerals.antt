@@ -5,13 +5,13 @@ use mathlib.Core.Path.{_≡_, refl, sym, ap, subst, _∙_}
 use Prim.Native.Nat.{ℕ, suc, _+_, _-_, _*_, _≤_, _<_, _^_}
 use native.Mathlib.Nat.{zero-lt-suc, lt-of-lt-of-le, pow-le-pow-right}
 use native.Mathlib.Omega.{arith}
-use borrow.Author.Tests.{le-leb, lt-leb}
+use borrow.Author.Tests.{le-leb, lt-leb, eq-eqb, ne-eqb}
 use lib.Dec.{leb, eqb}
 use lib.ListN.{length, getD, drop}
 use lib.Seq.{drop-cons, drop-length}
 use Rattle.terms.specs.Terms.{past-32-bits}
 use Rattle.words.specs.declared.Numeral.the-variants.{Value, NoNumber}
-use Rattle.words.specs.Words.{largest-number, all-digits, well-begun, value-on, value, is-number, numeral}
+use Rattle.words.specs.Words.{largest-number, all-digits, may-begin, value-on, value, is-number, numeral}
 
 -- the value of digits that follow the value n, or one over the largest number if a byte is no digit
 abbrev pub due : ℕ → List ℕ → ℕ
@@ -44,7 +44,7 @@ ten-digits v i l m = lt-of-lt-of-le l (pow-le-pow-right (zero-lt-suc 9) m)
 
 -- how a field begins
 abbrev pub begun : List ℕ → Bool
-begun s = leb 1 (length s) && well-begun s
+begun s = leb 1 (length s) && may-begin s
 
 pub begun-not : (s : List ℕ) → length s < 1 → false ≡ begun s
 begun-not [] l = refl
@@ -55,10 +55,13 @@ begun-single [] l m = absurd (omega arith)
 begun-single (b ∷ []) l m = refl
 begun-single (b ∷ c ∷ s) l m = absurd (omega arith)
 
-pub begun-by : (s : List ℕ) → 2 ≤ length s → not (eqb (getD s 0 0) 48) ≡ begun s
-begun-by [] l = absurd (omega arith)
-begun-by (b ∷ []) l = absurd (omega arith)
-begun-by (b ∷ c ∷ s) l = sym (rw (le-leb 1 (length (b ∷ c ∷ s)) (omega arith)))
+pub begun-ten : (s : List ℕ) → length s ≡ 10 → true ≡ begun s
+begun-ten s e = sym (rw (le-leb 1 (length s) (omega arith), eq-eqb (length s) 10 e) refl)
+
+pub begun-by : (s : List ℕ) → 2 ≤ length s → (length s ≡ 10 → ⊥) → not (eqb (getD s 0 0) 48) ≡ begun s
+begun-by [] l other = absurd (omega arith)
+begun-by (b ∷ []) l other = absurd (omega arith)
+begun-by (b ∷ c ∷ s) l other = sym (rw (le-leb 1 (length (b ∷ c ∷ s)) (omega arith), ne-eqb (length (b ∷ c ∷ s)) 10 other) refl)
 
 -- five tests of which one fails
 no-begin : (a b c d e : Bool) → (a && d) ≡ false → (a && b && c && d && e) ≡ false
@@ -87,11 +90,11 @@ module _ (s : List ℕ) where
 
   pub ill-begun : begun s ≡ false → NoNumber ≡ numeral s
   unfolding is-number
-  ill-begun e = tested (no-begin (leb 1 (length s)) (leb (length s) 10) (all-digits s) (well-begun s) (leb (value s) largest-number) e)
+  ill-begun e = tested (no-begin (leb 1 (length s)) (leb (length s) 10) (all-digits s) (may-begin s) (leb (value s) largest-number) e)
 
   pub too-long : 10 < length s → NoNumber ≡ numeral s
   unfolding is-number
-  too-long l = tested (rw (lt-leb (length s) 10 l) (no-second (leb 1 (length s)) (all-digits s) (well-begun s) (leb (value s) largest-number)))
+  too-long l = tested (rw (lt-leb (length s) 10 l) (no-second (leb 1 (length s)) (all-digits s) (may-begin s) (leb (value s) largest-number)))
 
   module _ (v : ℕ) (is : v ≡ due 0 s) where
     over-by : (t : Bool) → all-digits s ≡ t → largest-number < v → (all-digits s && leb (value s) largest-number) ≡ false
@@ -101,7 +104,7 @@ module _ (s : List ℕ) where
     pub too-large : largest-number < v → NoNumber ≡ numeral s
     unfolding is-number
     too-large l =
-        tested (no-value (leb 1 (length s)) (leb (length s) 10) (all-digits s) (well-begun s) (leb (value s) largest-number) (over-by (all-digits s) refl l))
+        tested (no-value (leb 1 (length s)) (leb (length s) 10) (all-digits s) (may-begin s) (leb (value s) largest-number) (over-by (all-digits s) refl l))
 
     pub a-number : begun s ≡ true → length s ≤ 10 → v ≤ largest-number → Value v ≡ numeral s
     unfolding numeral is-number
@@ -110,7 +113,7 @@ module _ (s : List ℕ) where
         by : (t : Bool) → all-digits s ≡ t → Value v ≡ numeral s
         by true e =
             let same : v ≡ value s = is ∙ rw e refl in
-            let both = and-eq-true-iff (leb 1 (length s)) (well-begun s) .0 well in
+            let both = and-eq-true-iff (leb 1 (length s)) (may-begin s) .0 well in
             ap Value same ∙ sym (rw
             (both .0, both .1, le-leb (length s) 10 few, e, le-leb (value s) largest-number (subst (λ (n : ℕ). n ≤ largest-number) same least)))
         by false e = absurd (let over : v ≡ past-32-bits = is ∙ rw e refl in omega arith)

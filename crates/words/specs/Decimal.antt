@@ -1,4 +1,5 @@
--- A number in decimal, as replies print it: digits only, and no 0 before others. Document 01 shows such numbers in its example and says no more of them.
+-- A number in decimal, as replies print it: digits only, and no 0 before others. Document 01 shows such numbers in its example and says no more of them;
+-- document 02, order 4: "What the program prints is unpadded." And a number as the new printer pads it.
 use mathlib.Core.Bool.{cond}
 use mathlib.Core.List.{List, [], _∷_, _++_}
 use Prim.Native.Nat.{ℕ, zero, suc, _+_, _/_, _%_}
@@ -11,3 +12,11 @@ decimal-by (suc steps) n = cond (ltb n 10) ((48 + n) ∷ []) (decimal-by steps (
 
 unfoldable pub decimal : ℕ → List ℕ
 decimal n = decimal-by n n
+
+-- "The printer pads every number to ten digits: `0000000030`." So many digits of a number, its last ones, with zeros before them where it has no more.
+unfoldable pub last-digits : (count n : ℕ) → List ℕ
+last-digits zero n = []
+last-digits (suc count) n = last-digits count (n / 10) ++ ((48 + n % 10) ∷ [])
+
+unfoldable pub padded : ℕ → List ℕ
+padded n = last-digits 10 n

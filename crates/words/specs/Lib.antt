@@ -1,3 +1,4 @@
 pub mod Letters
 pub mod Words
 pub mod Decimal
+pub mod Worked

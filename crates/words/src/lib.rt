@@ -5,9 +5,9 @@ ghost use Prim.Native.Nat.{_≤_};
 ghost use lib.Dec.{leb};
 ghost use lib.ListN.{length};
 ghost use Rattle.terms.specs.Terms.{past-32-bits};
-ghost use Rattle.words.specs.Words.{all-digits, well-begun, value, numeral, numeral-figures, same-bytes, begins};
+ghost use Rattle.words.specs.Words.{all-digits, may-begin, value, numeral, numeral-figures, Spells, same-bytes, begins};
 
-// How many digits a number may have, and the largest number.
+// How many digits a number may have, as many as a padded one has, and the largest number.
 const MOST_DIGITS: usize = 10;
 
 const LARGEST: u64 = 4294967295;
@@ -37,9 +37,9 @@ fn digits_value(s: &[u8]) -> u64
     v
 }
 
-// Whether a field has a first byte, which is not a 0 with others after it.
+// Whether a field has a first byte, which is not a 0 with others after it unless the field is padded to ten.
 fn begins_well(s: &[u8]) -> bool
-    ensures { λ r. ⌜ r ≡ (leb 1 (length (now (s .entry))) && well-begun (now (s .entry))) ⌝ }
+    ensures { λ r. ⌜ r ≡ (leb 1 (length (now (s .entry))) && may-begin (now (s .entry))) ⌝ }
 {
     if s.len() < 1 {
         return false;
@@ -47,12 +47,16 @@ fn begins_well(s: &[u8]) -> bool
     if s.len() < 2 {
         return true;
     }
+    if s.len() == MOST_DIGITS {
+        return true;
+    }
     s[0] != b'0'
 }
 
-// A field's number: 1 to 10 digits, no needless 0 before them, at most 4,294,967,295.
+// A field's number: 1 to 10 digits, no needless 0 before them unless they are ten, at most 4,294,967,295.
 pub fn numeral_of(s: &[u8]) -> Numeral
-    ensures { λ r. ⌜ numeral-figures r ≡ numeral-figures (numeral (now (s .entry))) ⌝ }
+    ensures figures { λ r. ⌜ numeral-figures r ≡ numeral-figures (numeral (now (s .entry))) ⌝ }
+    ensures spelling { λ r. ⌜ Spells (now (s .entry)) r ⌝ }
 {
     if !begins_well(s) {
         return Numeral::NoNumber;

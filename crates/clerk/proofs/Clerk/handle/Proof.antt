@@ -13,7 +13,7 @@ unfolding after reply
 returns c =
     let start = c .before .before .before .before .args in
     let line = start .line .now in
-    let asked = request-one (c .before .before .request-of .result) (request line) (c .before .before .request-of .ensures) refl in
+    let asked = request-one (c .before .before .request-of .result) (request line) (c .before .before .request-of .ensures .0) refl in
     (c .clerk-after .ensures ∙ ap (clerk-after (start .self) (begins line AREA)) asked, c .before .reply-to .ensures ∙ ap (reply-to (start .self)) asked)
 
 pub handle-spec : {M : Type 1} → statement M

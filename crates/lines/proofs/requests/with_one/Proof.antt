@@ -13,14 +13,14 @@ returns-2 c =
     let read = c .before .before .before in
     let first-test = read .before in
     let start = first-test .before .before in
-    one-there (λ i. AskNumber i) (start .args .a .now) (first-test .if1 .left) (read .numeral-of .ensures) (c .before .i .given .1)
+    one-there (λ i. AskNumber i) (start .args .a .now) (first-test .if1 .left) (read .numeral-of .ensures .0) (c .before .i .given .1)
 
 returns-3 : tie.Need-returns-3
 returns-3 c =
     let read = c .before .before in
     let first-test = read .before in
     let start = first-test .before .before in
-    one-there (λ i. AskNumber i) (start .args .a .now) (first-test .if1 .left) (read .numeral-of .ensures) (c .enum-told .given .1)
+    one-there (λ i. AskNumber i) (start .args .a .now) (first-test .if1 .left) (read .numeral-of .ensures .0) (c .enum-told .given .1)
 
 pub with-one-spec : {M : Type 1} → statement M
 with-one-spec =

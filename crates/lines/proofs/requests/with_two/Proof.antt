@@ -31,7 +31,7 @@ returns-3 c =
     let start = there .before .before .before .before in
     sym (rw (c .if3 .taken))
     ∙ two-there (asked (start .args .sets)) (start .args .a .now) (start .args .b .now) (there .before .if1 .left) (there .if2 .left)
-    (x-read .before .before .numeral-of .ensures) (x-read .x .given .1) (y-read .before .before .numeral-of2 .ensures) (y-read .y .given .1)
+    (x-read .before .before .numeral-of .ensures .0) (x-read .x .given .1) (y-read .before .before .numeral-of2 .ensures .0) (y-read .y .given .1)
 
 returns-4 : tie.Need-returns-4
 returns-4 c =
@@ -41,7 +41,7 @@ returns-4 c =
     let start = there .before .before .before .before in
     sym (rw (c .if3 .left))
     ∙ two-there (asked (start .args .sets)) (start .args .a .now) (start .args .b .now) (there .before .if1 .left) (there .if2 .left)
-    (x-read .before .before .numeral-of .ensures) (x-read .x .given .1) (y-read .before .before .numeral-of2 .ensures) (y-read .y .given .1)
+    (x-read .before .before .numeral-of .ensures .0) (x-read .x .given .1) (y-read .before .before .numeral-of2 .ensures .0) (y-read .y .given .1)
 
 returns-5 : tie.Need-returns-5
 returns-5 c =
@@ -49,14 +49,14 @@ returns-5 c =
     let there = x-read .before .before .before in
     let start = there .before .before .before .before in
     two-there (asked (start .args .sets)) (start .args .a .now) (start .args .b .now) (there .before .if1 .left) (there .if2 .left)
-    (x-read .before .before .numeral-of .ensures) (x-read .x .given .1) (c .before .before .numeral-of2 .ensures) (c .enum-told .given .1)
+    (x-read .before .before .numeral-of .ensures .0) (x-read .x .given .1) (c .before .before .numeral-of2 .ensures .0) (c .enum-told .given .1)
 
 returns-6 : tie.Need-returns-6
 returns-6 c =
     let there = c .before .before .before in
     let start = there .before .before .before .before in
     second-unread (asked (start .args .sets)) (start .args .a .now) (start .args .b .now) (there .before .if1 .left) (there .if2 .left)
-    (c .before .before .numeral-of .ensures) (c .enum-told2 .given .1)
+    (c .before .before .numeral-of .ensures .0) (c .enum-told2 .given .1)
 
 pub with-two-spec : {M : Type 1} → statement M
 with-two-spec =

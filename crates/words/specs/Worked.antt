@@ -1,0 +1,79 @@
+-- Fields worked by hand, as one table under one claim, which computes: the numbers that document 01, "Order lines", and document 02, order 4, give, and for
+-- each sentence of them the nearest fields on either side.
+use mathlib.Core.Bool.{Bool, true, false, _&&_}
+use mathlib.Core.List.{List, [], _∷_}
+use Prim.Native.Nat.{ℕ}
+use Prim.Native.String.{String}
+use lib.Dec.{T, eqb}
+use Rattle.words.specs.declared.Numeral.{Numeral}
+use Rattle.words.specs.declared.Numeral.the-variants.{Value, NoNumber}
+use Rattle.words.specs.Letters.{bytes}
+use Rattle.words.specs.Words.{all-digits, value-on, is-number, numeral}
+
+-- A field that is a number of some value, or none.
+pub data Case : Type 0 where
+  number : String → ℕ → Case
+  none : String → Case
+
+is-value : ℕ → Numeral → Bool
+is-value n (Value m) = eqb m n
+is-value n NoNumber = false
+
+is-none : Numeral → Bool
+is-none (Value m) = false
+is-none NoNumber = true
+
+right : Case → Bool
+unfolding is-value is-none numeral is-number all-digits value-on
+right (number field n) = is-value n (numeral (bytes field))
+right (none field) = is-none (numeral (bytes field))
+
+pub all-right : List Case → Bool
+unfolding right
+all-right [] = true
+all-right (c ∷ cs) = right c && all-right cs
+
+pub worked : List Case
+worked =
+    -- "A number is 1 to 10 digits, first digit not 0 unless it is the single digit, value at most 4,294,967,295."
+    number "0" 0
+    ∷ number "7" 7
+    ∷ number "30" 30
+    ∷ number "999999999" 999999999
+    ∷ number "1000000000" 1000000000
+    ∷ number "4294967295" 4294967295
+    ∷ none ""
+    ∷ none "4294967296"
+    ∷ none "9999999999"
+    ∷ none "42949672950"
+    -- "Anything else is refusal 5: `3E4`, `+7`, `07`, `7.0`, a carriage return after the digits."
+    ∷ none "3E4"
+    ∷ none "+7"
+    ∷ none "-7"
+    ∷ none "07"
+    ∷ none "7.0"
+    ∷ none "7\r"
+    -- "The printer pads every number to ten digits: `0000000030`. A field of exactly ten digits may now begin with zeros"
+    ∷ number "0000000030" 30
+    ∷ number "0000000000" 0
+    ∷ number "0000000007" 7
+    ∷ number "0004294967" 4294967
+    ∷ number "0999999999" 999999999
+    -- "shorter fields keep the old rule, so `07` is still refused", and longer ones are none
+    ∷ none "00"
+    ∷ none "000000000"
+    ∷ none "000000030"
+    ∷ none "099999999"
+    ∷ none "00000000000"
+    ∷ none "00000000030"
+    ∷ none "04294967295"
+    -- ten bytes that are not all digits
+    ∷ none "00000003E4"
+    ∷ none "-000000030"
+    ∷ none "0000000 30"
+    ∷ none "00000003.0"
+    ∷ []
+
+pub worked-right : T (all-right worked)
+unfolding worked all-right
+worked-right = tt
