@@ -216,7 +216,7 @@ pub fn check(w: u32, h: u32, table: &[u32], by_square: bool) -> Result<Option<(u
 }
 
 fn number(field: &[u8]) -> Result<u32, u32> {
-    if field.len() > 10 || field.len() > 1 && field[0] == b'0' {
+    if field.len() > 10 || (2..10).contains(&field.len()) && field[0] == b'0' {
         return Err(5);
     }
     let mut value = 0u64;

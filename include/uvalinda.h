@@ -136,6 +136,7 @@ uint32_t uvalinda_runs_for_window(uint32_t w, uint32_t h, uint32_t x0, uint32_t 
 /*
  * Answers one order line: `AREA w h`, `N i` or `S x y`, any bytes, without the newline. The caller keeps the area in force as two numbers,
  * begins with 0 and 0 for none, and hands on from line to line what the last call left. Numbers that are no accepted area count as none.
+ * A number of the line is plain, as 30, or padded with zeros to exactly ten digits, as 0000000030; 07 is none.
  * Values: w and h of the area in force after the line, 0 and 0 for none, also where the line is refused; then
  *   UVALINDA_REPLY_AREA, how many squares the area has, x and y of its finish square; or
  *   UVALINDA_REPLY_CELL, x, y, blocks; or

@@ -155,6 +155,27 @@ fn even_halves() {
     }
 }
 
+// Document 02's labels: a field of exactly ten digits may begin with zeros and asks as the plain number does, shorter and longer ones are refused as before.
+// Besides the cases that it gives, every field of up to eleven zeros and ones.
+fn labels() {
+    let asked = |field: &str| handle_line(65535, 65535, format!("N {field}").as_bytes(), 6);
+    for (padded, plain) in [("0000000030", "30"), ("0000000000", "0"), ("0004294967", "4294967"), ("0999999999", "999999999")] {
+        assert_eq!(asked(padded), asked(plain), "{padded} and {plain}");
+        assert_eq!(asked(padded).0, 0, "{padded}");
+    }
+    for none in ["07", "00", "000000030", "00000000030", "4294967296", "9999999999", "00000003E4", "-000000030"] {
+        assert_eq!(asked(none), (5, vec![65535, 65535, 0, 0, 0, 0]), "{none}");
+    }
+    for length in 1..=11 {
+        for bits in 0..1 << length {
+            let field: String = (0..length).map(|i| if bits >> i & 1 == 1 { '1' } else { '0' }).collect();
+            for line in [format!("N {field}"), format!("S {field} 0"), format!("S 0 {field}"), format!("AREA {field} 7")] {
+                assert_eq!(handle_line(3, 4, line.as_bytes(), 6), line_due(3, 4, line.as_bytes(), 6), "{line}");
+            }
+        }
+    }
+}
+
 // A side of an area: an end of the range, past it, or anything.
 fn side(random: &mut Random) -> u32 {
     match random.below(4) {
@@ -230,6 +251,7 @@ fn main() {
     let mut random = Random::from(seed);
     worked_cases();
     even_halves();
+    labels();
     long_lengths();
     for w in 1..=40 {
         for h in 1..=40 {

@@ -310,11 +310,12 @@ pub fn check(w: i64, h: i64, by_square: bool, table: &[u32]) -> Answer {
     }
 }
 
-// A field as a number: 1 to 10 digits, no 0 before others, at most 4,294,967,295.
+// A field as a number: 1 to 10 digits, no 0 before others unless the field has exactly ten digits, at most 4,294,967,295.
 fn number(field: &[u8]) -> Option<i64> {
     let text = std::str::from_utf8(field).ok()?;
-    let plain = (1..=10).contains(&text.len()) && text.chars().all(|c| c.is_ascii_digit()) && (text.len() == 1 || !text.starts_with('0'));
-    let value: i64 = if plain { text.parse().ok()? } else { return None };
+    let digits = (1..=10).contains(&text.len()) && text.chars().all(|c| c.is_ascii_digit());
+    let zeros_allowed = text.len() == 1 || text.len() == 10;
+    let value: i64 = if digits && (zeros_allowed || !text.starts_with('0')) { text.parse().ok()? } else { return None };
     (value <= 4294967295).then_some(value)
 }
 

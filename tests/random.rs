@@ -29,15 +29,23 @@ pub fn near(random: &mut Random, n: u64) -> u32 {
     }
 }
 
-// A field that is a number, or nearly one.
+// A field that is a number, or nearly one: plain, or with zeros before it up to about ten digits.
 fn field(random: &mut Random) -> Vec<u8> {
     let odd: [&[u8]; 12] = [b"", b"07", b"3E4", b"+7", b"-1", b"7.0", b"4294967295", b"4294967296", b"99999999999", b"0", b"65535", b"65536"];
+    let padded: [&[u8]; 6] = [b"0000000030", b"0000000000", b"00000003E4", b"+000000007", b"-000000007", b"0000000 07"];
     let limit = [10, 100, 70000, 5_000_000_000][random.below(4) as usize];
-    match random.below(8) {
+    match random.below(9) {
         0 => random.of(&odd).to_vec(),
         1 => (0..random.below(12)).map(|_| random.below(256) as u8).filter(|&b| b != b'\n').collect(),
+        2 => random.of(&padded).to_vec(),
+        3 => format!("{:0digits$}", random.below(limit), digits = random.of(&[2, 9, 10, 10, 11])).into_bytes(),
         _ => random.below(limit).to_string().into_bytes(),
     }
+}
+
+// A number in one of its two spellings: plain, as it mostly is, or padded to ten digits.
+fn spelt(random: &mut Random, n: u32) -> String {
+    if random.below(8) == 0 { format!("{n:010}") } else { n.to_string() }
 }
 
 // A line that is nearly right, and seldom quite.
@@ -78,13 +86,19 @@ impl Lines {
                 }
                 line
             }
-            (2..=5, Some((w, h))) => format!("N {}", near(random, w as u64 * h as u64)).into_bytes(),
-            (6..=8, Some((w, h))) => format!("S {} {}", near(random, w as u64), near(random, h as u64)).into_bytes(),
+            (2..=5, Some((w, h))) => {
+                let i = near(random, w as u64 * h as u64);
+                format!("N {}", spelt(random, i)).into_bytes()
+            }
+            (6..=8, Some((w, h))) => {
+                let (x, y) = (near(random, w as u64), near(random, h as u64));
+                format!("S {} {}", spelt(random, x), spelt(random, y)).into_bytes()
+            }
             _ => {
                 let limit = random.of(&[10, 300, 65535]);
                 let (w, h) = (1 + random.below(limit) as u32, 1 + random.below(limit) as u32);
                 self.area = Some((w, h));
-                format!("AREA {w} {h}").into_bytes()
+                format!("AREA {} {}", spelt(random, w), spelt(random, h)).into_bytes()
             }
         }
     }

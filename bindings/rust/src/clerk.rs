@@ -28,6 +28,8 @@ pub enum Reply {
 /// assert_eq!(clerk.handle(b"N 8"), Err(Refusal::NoArea));
 /// assert!(clerk.handle(b"AREA 3 4").is_ok());
 /// assert_eq!(clerk.handle(b"N 8"), Ok(Reply::Cell(Cell { x: 2, y: 1, blocks: 3 })));
+/// assert_eq!(clerk.handle(b"N 0000000008"), clerk.handle(b"N 8"));
+/// assert_eq!(clerk.handle(b"N 08"), Err(Refusal::NotANumber));
 /// assert_eq!(clerk.handle(b"N 3E4"), Err(Refusal::NotANumber));
 /// assert_eq!(clerk.area(), Some(Area { w: 3, h: 4 }));
 /// assert_eq!(clerk.handle(b"AREA 0 4"), Err(Refusal::AreaLimit));
@@ -66,7 +68,8 @@ impl Clerk {
     }
 
     /// Answers a line: `AREA w h`, `N i` or `S x y`, any bytes, without the newline. An accepted `AREA` line sets the area in force, a refused
-    /// line whose first four bytes are `AREA` leaves none, and no other line alters it.
+    /// line whose first four bytes are `AREA` leaves none, and no other line alters it. A number is plain, as `30`, or padded with zeros to exactly
+    /// ten digits, as `0000000030`.
     pub fn handle(&mut self, line: &[u8]) -> Result<Reply, Refusal> {
         let mut now = [0; 6];
         // SAFETY: the slice and the array are passed with their own lengths.
