@@ -28,14 +28,12 @@ pub data Ends (a b x y : ℕ) : Type 0 where
   corner : 2 ≤ a → (b ≡ 2 → a % 2 ≡ 0) → x + 1 ≡ a → y ≡ 0 → Ends a b x y
 
 -- the even half is even, but for lengths 1 and 2
-half-even : (L : ℕ) → 2 < L → even-half L % 2 ≡ 0
+pub half-even : (L : ℕ) → 2 < L → even-half L % 2 ≡ 0
 half-even L l = let e = half-large L l in omega arith
 
-rest-odd : (a e : ℕ) → e ≤ a → a % 2 ≡ 1 → e % 2 ≡ 0 → (a - e) % 2 ≡ 1
-rest-odd a e l odd even = omega arith
-
-rest-even : (a e : ℕ) → e ≤ a → a % 2 ≡ 0 → e % 2 ≡ 0 → (a - e) % 2 ≡ 0
-rest-even a e l odd even = omega arith
+-- so that the rest is even or odd as the length is
+pub rest-parity : (L e : ℕ) → e ≤ L → e % 2 ≡ 0 → (L - e) % 2 ≡ L % 2
+rest-parity L e l even = omega arith
 
 at-least-3 : (n : ℕ) → n % 2 ≡ 1 → 2 ≤ n → 3 ≤ n
 at-least-3 n odd l = omega arith
@@ -51,12 +49,12 @@ module _ (a b x y : ℕ) where
   second-ends lb l (short two la odd p q) =
       let half = halves a (omega arith) in
       let even = half-even a (omega arith) in
-      let odd-rest : (a - even-half a) % 2 ≡ 1 = rest-odd a (even-half a) (omega arith) odd even in
+      let odd-rest : (a - even-half a) % 2 ≡ 1 = rest-parity a (even-half a) (omega arith) even ∙ odd in
       short two (at-least-3 (a - even-half a) odd-rest (omega arith)) odd-rest (omega arith) q
   second-ends lb l (corner la even p q) =
       let half = halves a la in
       let even-e = half-even a (omega arith) in
-      corner (omega arith) (λ two. rest-even a (even-half a) (omega arith) (even two) even-e) (omega arith) q
+      corner (omega arith) (λ two. rest-parity a (even-half a) (omega arith) even-e ∙ even two) (omega arith) q
 
   -- so does C, the last part of a U cut
   c-ends : 2 ≤ a → 2 ≤ b → 2 * a ≤ 3 * b → Ends a b x y → Ends (even-half b) (a - a / 2) (even-half b - 1 - y) (a - 1 - x)

@@ -1,3 +1,4 @@
 pub mod Answers
 pub mod Finish
+pub mod Neighbours
 pub mod Promises

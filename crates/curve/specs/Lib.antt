@@ -1,2 +1,3 @@
 pub mod Lookups
+pub mod Steps
 pub mod Worked
