@@ -2,3 +2,4 @@ pub mod Answers
 pub mod Finish
 pub mod Neighbours
 pub mod Promises
+pub mod Steps
