@@ -70,6 +70,13 @@ square-by w h x y values false b c p q r e = absurd (area-none w h 2 (number-lim
 square-asked : (w h x y : ℕ) (values : List ℕ) → square-to-number w h x y ≡ answered values → (accepted w h ≡ true) × (x < w) × (y < h)
 square-asked w h x y values e = square-by w h x y values (accepted w h) (ltb x w) (ltb y h) refl refl refl e
 
+-- an answered square is the number's own
+pub answered-square : (w h n x y k : ℕ) → number-to-square w h n ≡ answered (x ∷ y ∷ k ∷ []) → square x y ≡ square-of (whole w h) n
+answered-square w h n x y k e =
+    let was = number-asked w h n (x ∷ y ∷ k ∷ []) e in
+    let is = sym e ∙ number-answered w h (was .0) n (was .1) in
+    ap₂ square (ap (figure 0) is) (ap (figure 1) is)
+
 -- Each lookup undoes the other, with the same count of blocks.
 pub number-back : (w h n x y k : ℕ) → number-to-square w h n ≡ answered (x ∷ y ∷ k ∷ []) → square-to-number w h x y ≡ answered (n ∷ k ∷ [])
 unfolding whole
@@ -78,7 +85,7 @@ number-back w h n x y k e =
     let all = limits w h (was .0) in
     let s = square-of (whole w h) n in
     let is = sym e ∙ number-answered w h (was .0) n (was .1) in
-    let there : square x y ≡ s = ap₂ square (ap (figure 0) is) (ap (figure 1) is) in
+    let there = answered-square w h n x y k e in
     let inside = whole-inside w h (all .w-least) (all .h-least) in
     let within = whole-within w h s (square-held w h (whole w h) inside n (was .1)) in
     square-answered w h (was .0) x y (subst⁻¹ (λ (m : ℕ). m < w) (ap (figure 0) is) (within .run))

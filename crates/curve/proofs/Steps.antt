@@ -168,6 +168,13 @@ module _ (w h : ℕ) (lw : 1 ≤ w) (lh : 1 ≤ h) where
   unfolding step-of
   side-or-bend i l = ⊎-elim (λ e. inl (beside (at w h lw lh i) (at w h lw lh (i + 1)) e)) inr (next-square w h lw lh i l)
 
+  pub side-or-corner : (i : ℕ) → i + 1 < w * h → (shares-side (step-of w h i) ≡ true) ⊎ (corner-only (step-of w h i) ≡ true)
+  unfolding step-of corner-only
+  side-or-corner i l = ⊎-elim inl (λ t. inr (ap corner-only (bend-differs w h t))) (side-or-bend i l)
+
+  pub corner-at : (i : ℕ) → i + 1 < w * h → corner-only (step-of w h i) ≡ true → (bends w h ≡ true) × (i ≡ bend-number w h)
+  corner-at i l c = ⊎-elim (λ f. absurd (not-both (step-of w h i) f c)) (λ t. (bent-bends w h t, at-bend w h lw lh i l t)) (side-or-bend i l)
+
   -- "squares of successive numbers share a side, with one exception"
   pub shares-a-side : (i : ℕ) → i + 1 < w * h → (bends w h ≡ true → i ≡ bend-number w h → ⊥) → shares-side (step-of w h i) ≡ true
   shares-a-side i l other = ⊎-elim (λ e. e) (λ t. absurd (other (bent-bends w h t) (at-bend w h lw lh i l t))) (side-or-bend i l)
@@ -184,7 +191,7 @@ module _ (w h : ℕ) (lw : 1 ≤ w) (lh : 1 ≤ h) where
         to = ap₂ square (omega (arith, t .to-x)) (omega (arith, t .to-y));
         differences = is;
         touches = ap corner-only is;
-        only = λ i l c. ⊎-elim (λ f. absurd (not-both (step-of w h i) f c)) (at-bend w h lw lh i l) (side-or-bend i l);
+        only = λ i l c. corner-at i l c .1;
       }
 
   -- "Otherwise there is none."

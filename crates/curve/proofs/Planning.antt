@@ -1,0 +1,171 @@
+-- What a planner takes from the law of the steps: how many steps a walk from the first square to the last has, and how many of them go across a corner; and
+-- the same of the answers that two successive calls give. Steps are counted along the list of them, number by number.
+use mathlib.Core.Bool.{Bool, true, false}
+use mathlib.Core.List.{List, [], _∷_}
+use mathlib.Core.Logic.{_⊎_, inl, inr, ⊎-elim}
+use mathlib.Core.Path.{_≡_, refl, sym, ap, ap₂, subst, subst⁻¹, _∙_}
+use Prim.Native.Nat.{ℕ, zero, suc, _+_, _-_, _*_, _≤_, _<_}
+use native.Mathlib.Nat.{suc-add}
+use native.Mathlib.Omega.{arith}
+use lib.Dec.{lit≤}
+use lib.ListN.{length, getD}
+use Rattle.terms.specs.Terms.{accepted, Figures, answered}
+use Rattle.terms.proofs.Laws.{limits, figure}
+use Rattle.division.specs.Division.{Square, square, whole, curve, one, count, square-of, blocks-holding}
+use Rattle.division.proofs.Once.{length-curve}
+use Rattle.curve.specs.Lookups.{number-to-square}
+use Rattle.curve.specs.Steps.{Step, step-between, step-of, shares-side, corner-only, steps-through, walk}
+use Rattle.curve.specs.Steps.{bends, bend-from, bend-to, bend-number, bend-step}
+use Rattle.curve.proofs.Promises.{number-answered, number-asked, answered-square}
+use Rattle.curve.proofs.Steps.{not-both, side-or-corner, corner-at, one-corner-step, otherwise-none}
+
+-- the steps through a list of squares: one less than these, and each from a square to the next
+through-length : (zs : List Square) → length (steps-through zs) ≡ length zs - 1
+unfolding steps-through
+through-length [] = refl
+through-length (p ∷ []) = refl
+through-length (p ∷ q ∷ qs) = omega (arith, through-length (q ∷ qs))
+
+through-at : (zs : List Square) (i : ℕ) (d : Step) (s : Square) → i + 1 < length zs
+    → getD (steps-through zs) i d ≡ step-between (getD zs i s) (getD zs (i + 1) s)
+unfolding steps-through
+through-at [] i d s l = absurd (omega arith)
+through-at (p ∷ []) i d s l = absurd (omega arith)
+through-at (p ∷ q ∷ qs) zero d s l = refl
+through-at (p ∷ q ∷ qs) (suc i) d s l =
+    through-at (q ∷ qs) i d s (omega arith) ∙ ap (λ (n : ℕ). step-between (getD (q ∷ qs) i s) (getD (p ∷ q ∷ qs) n s)) (sym (suc-add i 1))
+
+-- counting along a list
+module _ {X : Type 0} (f : X → Bool) (d : X) where
+  count-none : (zs : List X) → ((i : ℕ) → i < length zs → f (getD zs i d) ≡ false) → count f zs ≡ 0
+  unfolding count
+  count-none [] none = refl
+  count-none (z ∷ zs) none = ap₂ _+_ (ap one (none 0 (omega arith))) (count-none zs (λ i l. none (suc i) (omega arith)))
+
+  count-one : (zs : List X) (n : ℕ) → n < length zs → f (getD zs n d) ≡ true → ((i : ℕ) → i < length zs → (i ≡ n → ⊥) → f (getD zs i d) ≡ false)
+      → count f zs ≡ 1
+  unfolding count
+  count-one [] n l e only = absurd (omega arith)
+  count-one (z ∷ zs) zero l e only = ap₂ _+_ (ap one e) (count-none zs (λ i m. only (suc i) (omega arith) (λ is. omega arith)))
+  count-one (z ∷ zs) (suc n) l e only =
+      ap₂ _+_ (ap one (only 0 (omega arith) (λ is. omega arith)))
+      (count-one zs n (omega arith) e (λ i m other. only (suc i) (omega arith) (λ is. other (omega arith))))
+
+count-two : {X : Type 0} (f g : X → Bool) (d : X) (zs : List X) → ((i : ℕ) → i < length zs → one (f (getD zs i d)) + one (g (getD zs i d)) ≡ 1)
+    → count f zs + count g zs ≡ length zs
+unfolding count
+count-two f g d [] either = refl
+count-two f g d (z ∷ zs) either = omega (arith, either 0 (omega arith), count-two f g d zs (λ i l. either (suc i) (omega arith)))
+
+-- a step that is of one of the two kinds is not of the other
+never : (t : Bool) → (t ≡ true → ⊥) → t ≡ false
+never true not = absurd (not refl)
+never false not = refl
+
+kinds : (s : Step) → (shares-side s ≡ true) ⊎ (corner-only s ≡ true) → one (shares-side s) + one (corner-only s) ≡ 1
+kinds s (inl e) = ap₂ (λ side corner. one side + one corner) e (never (corner-only s) (not-both s e))
+kinds s (inr e) = ap₂ (λ side corner. one side + one corner) (never (shares-side s) (λ f. not-both s f e)) e
+
+-- "The length along the curve is known": w·h - 1 steps, of which one goes across a corner where the area bends, and none elsewhere.
+module _ (w h : ℕ) (lw : 1 ≤ w) (lh : 1 ≤ h) where
+  curve-length : length (curve (whole w h)) ≡ w * h
+  unfolding whole
+  curve-length = length-curve (whole w h) (record { run = lw; side = lh })
+
+  pub walk-length : length (walk w h) ≡ w * h - 1
+  unfolding walk
+  walk-length = through-length (curve (whole w h)) ∙ ap (λ n. n - 1) curve-length
+
+  pub walk-at : (i : ℕ) → i + 1 < w * h → getD (walk w h) i bend-step ≡ step-of w h i
+  unfolding walk step-of square-of
+  walk-at i l = through-at (curve (whole w h)) i bend-step (square 0 0) (subst⁻¹ (λ (n : ℕ). i + 1 < n) curve-length l)
+
+  -- what the law says of the step from number i is so of the i-th step of the walk
+  of-walk : (P : ℕ → Step → Type 0) → ((i : ℕ) → i + 1 < w * h → P i (step-of w h i)) → (i : ℕ) → i < length (walk w h) → P i (getD (walk w h) i bend-step)
+  of-walk P law i l = let below : i + 1 < w * h = omega (arith, walk-length) in subst⁻¹ (P i) (walk-at i below) (law i below)
+
+  pub walk-corners : count corner-only (walk w h) ≡ one (bends w h)
+  walk-corners = by (bends w h) refl
+    where
+      by : (t : Bool) → bends w h ≡ t → count corner-only (walk w h) ≡ one t
+      by false e =
+          count-none corner-only bend-step (walk w h)
+          (of-walk (λ i s. corner-only s ≡ false) (λ i l. never _ (not-both (step-of w h i) (otherwise-none w h lw lh e i l))))
+      by true e =
+          let there = one-corner-step w h lw lh e in
+          count-one corner-only bend-step (walk w h) (bend-number w h) (omega (arith, walk-length, there .is-step))
+          (ap corner-only (walk-at (bend-number w h) (there .is-step)) ∙ there .touches)
+          (of-walk (λ i s. (i ≡ bend-number w h → ⊥) → corner-only s ≡ false) (λ i l other. never _ (λ c. other (there .only i l c))))
+
+  pub walk-sides : count shares-side (walk w h) ≡ w * h - 1 - one (bends w h)
+  walk-sides =
+      let both = count-two shares-side corner-only bend-step (walk w h)
+      (of-walk (λ i s. one (shares-side s) + one (corner-only s) ≡ 1) (λ i l. kinds (step-of w h i) (side-or-corner w h lw lh i l))) in
+      omega (arith, walk-length, walk-corners)
+
+-- Two successive answers of `number_to_square`: their squares share a side, or they are those of the corner step.
+pub record Across (w h : ℕ) (p q : Square) : Type 0 where
+  pub bent : bends w h ≡ true
+  pub from : p ≡ bend-from w h
+  pub to : q ≡ bend-to w h
+
+module _ (w h i x y k x′ y′ k′ : ℕ) (e : number-to-square w h i ≡ answered (x ∷ y ∷ k ∷ []))
+    (f : number-to-square w h (i + 1) ≡ answered (x′ ∷ y′ ∷ k′ ∷ [])) where
+  was : (accepted w h ≡ true) × (i + 1 < w * h)
+  was = number-asked w h (i + 1) (x′ ∷ y′ ∷ k′ ∷ []) f
+
+  here : square x y ≡ square-of (whole w h) i
+  here = answered-square w h i x y k e
+
+  next : square x′ y′ ≡ square-of (whole w h) (i + 1)
+  next = answered-square w h (i + 1) x′ y′ k′ f
+
+  answered-step : step-between (square x y) (square x′ y′) ≡ step-of w h i
+  unfolding step-of
+  answered-step = ap₂ step-between here next
+
+  pub answers-one-corner : corner-only (step-between (square x y) (square x′ y′)) ≡ true → (bends w h ≡ true) × (i ≡ bend-number w h)
+  answers-one-corner c =
+      let all = limits w h (was .0) in
+      corner-at w h (all .w-least) (all .h-least) i (was .1) (sym (ap corner-only answered-step) ∙ c)
+
+  pub answers-apart : (shares-side (step-between (square x y) (square x′ y′)) ≡ true) ⊎ Across w h (square x y) (square x′ y′)
+  answers-apart =
+      let all = limits w h (was .0) in
+      ⊎-elim (λ s. inl (ap shares-side answered-step ∙ s)) (λ c. inr (by (corner-at w h (all .w-least) (all .h-least) i (was .1) c)))
+      (side-or-corner w h (all .w-least) (all .h-least) i (was .1))
+    where
+      by : (bends w h ≡ true) × (i ≡ bend-number w h) → Across w h (square x y) (square x′ y′)
+      by (bent, is) =
+          let all = limits w h (was .0) in
+          let there = one-corner-step w h (all .w-least) (all .h-least) bent in
+          record {
+            bent = bent;
+            from = here ∙ ap (square-of (whole w h)) is ∙ there .from;
+            to = next ∙ ap (λ n. square-of (whole w h) (n + 1)) is ∙ there .to;
+          }
+
+-- And where an area bends, two successive answers are those.
+pub corner-answered : (w h : ℕ) → accepted w h ≡ true → bends w h ≡ true
+    → (k : ℕ) × (k′ : ℕ) × (number-to-square w h (bend-number w h) ≡ answered ((w - 2) ∷ (h - 2) ∷ k ∷ []))
+    × (number-to-square w h (bend-number w h + 1) ≡ answered ((w - 1) ∷ (h - 3) ∷ k′ ∷ []))
+corner-answered w h ok bent =
+    let all = limits w h ok in
+    let there = one-corner-step w h (all .w-least) (all .h-least) bent in
+    let answer : Square → Figures = λ s. answered (s .x ∷ s .y ∷ blocks-holding (whole w h) s ∷ []) in (
+      blocks-holding (whole w h) (bend-from w h),
+      blocks-holding (whole w h) (bend-to w h),
+      number-answered w h ok (bend-number w h) (omega (arith, there .is-step)) ∙ ap answer (there .from),
+      number-answered w h ok (bend-number w h + 1) (there .is-step) ∙ ap answer (there .to),
+    )
+
+-- A wrong division that the law turns away: made even by the half and not by the length, as the algorithm is printed, 3 by 3 gets a corner step.
+pub printed : List Square
+printed = square 0 0 ∷ square 0 1 ∷ square 0 2 ∷ square 1 2 ∷ square 2 2 ∷ square 2 1 ∷ square 1 1 ∷ square 2 0 ∷ square 1 0 ∷ []
+
+pub printed-half : curve (whole 3 3) ≡ printed → ⊥
+unfolding walk printed count steps-through step-between corner-only bends
+printed-half e =
+    let corners : _≡_ {A = ℕ} 1 0 =
+    subst (λ (zs : List Square). count corner-only (steps-through zs) ≡ one (bends 3 3)) e (walk-corners 3 3 (lit≤ tt) (lit≤ tt)) in
+    omega arith
