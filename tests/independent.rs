@@ -270,6 +270,12 @@ pub fn window_answer(w: i64, h: i64, window: Window, places: usize, runs: impl F
     (0, runs.len() as i64, runs)
 }
 
+// Document 02, order 5: how many steps of an area go to a square that touches only at a corner. All others share a side.
+pub fn corner_steps(w: i64, h: i64) -> i64 {
+    let excepted = w % 2 == 1 && w >= 3 && h % 2 == 0 && h >= 4;
+    excepted as i64
+}
+
 // A table of either kind as it is due.
 pub fn table_due(w: i64, h: i64, by_square: bool) -> Vec<u32> {
     let mut table = vec![0; (w * h) as usize];

@@ -1,14 +1,18 @@
 -- Calls worked by hand, as one table under one claim, which computes: document 01, "Refusal numbers", with the order of the refusals and "the number, all else
--- 0", its cases "65,536 by 1 and 0 by 5: refusal 1"; and the finish squares of document 02, order 1. The squares, numbers and counts of answered lookups are
--- worked in the division's tables.
-use mathlib.Core.Bool.{Bool, true, _&&_}
+-- 0", its cases "65,536 by 1 and 0 by 5: refusal 1"; the finish squares of document 02, order 1, and the terms of its order 5, on small areas. The squares,
+-- numbers and counts of answered lookups are worked in the division's tables.
+use mathlib.Core.Bool.{Bool, true, _&&_, not}
 use mathlib.Core.List.{List, [], _∷_}
-use Prim.Native.Nat.{ℕ}
-use lib.Dec.{T}
+use Prim.Native.Nat.{ℕ, _+_}
+use lib.Dec.{T, eqb}
+use lib.IntN.{ℤ, pos, negsuc}
+use lib.ListN.{length}
+use lib.Signed.{leZ}
 use Rattle.terms.specs.Terms.{accepted, area-refusal}
 use Rattle.terms.specs.Comparing.{same-numbers, same-figures}
-use Rattle.division.specs.Division.{whole, choice, even-half, part, parts, parts-of, moved, against, row, curve-by, down, curve, square-of}
+use Rattle.division.specs.Division.{whole, choice, even-half, part, parts, parts-of, moved, against, row, curve-by, down, curve, count, square-of}
 use Rattle.curve.specs.Lookups.{unless-deep, number-to-square, square-to-number, finish-square}
+use Rattle.curve.specs.Steps.{Step, step-between, step-of, shares-side, corner-only, steps-through, walk}
 
 -- A line of the table, of a w by h area.
 pub data Case : Type 0 where
@@ -21,14 +25,39 @@ pub data Case : Type 0 where
   -- a lookup whose square so many blocks hold is answered, or refused so
   deep-answered : (blocks : ℕ) → Case
   deep-refused : (blocks refusal : ℕ) → Case
+  -- the step from number i is (dx, dy)
+  goes : (w h i : ℕ) (dx dy : ℤ) → Case
+  -- a step (dx, dy) shares a side, it touches only at a corner, or neither
+  to-side : (dx dy : ℤ) → Case
+  to-corner : (dx dy : ℤ) → Case
+  to-neither : (dx dy : ℤ) → Case
+  -- the walk has so many steps of either kind, and no others
+  walked : (w h sides corners : ℕ) → Case
+
+same-difference : ℤ → ℤ → Bool
+same-difference m n = leZ m n && leZ n m
+
+is-step : (w h i : ℕ) (dx dy : ℤ) → Bool
+unfolding step-of step-between square-of curve down parts parts-of part choice even-half whole moved against row curve-by mathlib.Core.List.flatten
+is-step w h i dx dy = same-difference (step-of w h i .dx) dx && same-difference (step-of w h i .dy) dy
+
+abbrev by : ℤ → ℤ → Step
+by dx dy = record { dx = dx; dy = dy }
 
 right : Case → Bool
+unfolding is-step same-difference shares-side corner-only walk steps-through count
 right (number-refused w h number r) = same-figures (number-to-square w h number) r (0 ∷ 0 ∷ 0 ∷ [])
 right (square-refused w h x y r) = same-figures (square-to-number w h x y) r (0 ∷ 0 ∷ [])
 right (finish-refused w h r) = same-figures (finish-square w h) r (0 ∷ 0 ∷ [])
 right (finishes-at w h x y) = same-figures (finish-square w h) 0 (x ∷ y ∷ [])
 right (deep-answered blocks) = same-figures (unless-deep blocks (7 ∷ blocks ∷ []) 2) 0 (7 ∷ blocks ∷ [])
 right (deep-refused blocks r) = same-figures (unless-deep blocks (7 ∷ blocks ∷ []) 2) r (0 ∷ 0 ∷ [])
+right (goes w h i dx dy) = is-step w h i dx dy
+right (to-side dx dy) = shares-side (by dx dy) && not (corner-only (by dx dy))
+right (to-corner dx dy) = corner-only (by dx dy) && not (shares-side (by dx dy))
+right (to-neither dx dy) = not (shares-side (by dx dy)) && not (corner-only (by dx dy))
+right (walked w h sides corners) =
+    eqb (count shares-side (walk w h)) sides && eqb (count corner-only (walk w h)) corners && eqb (length (walk w h)) (sides + corners)
 
 pub all-right : List Case → Bool
 all-right [] = true
@@ -82,6 +111,39 @@ worked =
     ∷ deep-answered 1
     ∷ deep-answered 64
     ∷ deep-refused 65 9
+    -- "signed differences in x and y": up, to the right, to the left, across a corner, and down
+    ∷ goes 3 4 0 (pos 0) (pos 1)
+    ∷ goes 3 4 3 (pos 1) (pos 0)
+    ∷ goes 3 4 6 (negsuc 0) (pos 0)
+    ∷ goes 3 4 7 (pos 1) (negsuc 0)
+    ∷ goes 3 4 9 (pos 0) (negsuc 0)
+    -- "share a side"
+    ∷ to-side (pos 1) (pos 0)
+    ∷ to-side (negsuc 0) (pos 0)
+    ∷ to-side (pos 0) (pos 1)
+    ∷ to-side (pos 0) (negsuc 0)
+    -- "touches only at a corner"
+    ∷ to-corner (pos 1) (pos 1)
+    ∷ to-corner (pos 1) (negsuc 0)
+    ∷ to-corner (negsuc 0) (pos 1)
+    ∷ to-corner (negsuc 0) (negsuc 0)
+    -- the same square, and squares further off
+    ∷ to-neither (pos 0) (pos 0)
+    ∷ to-neither (pos 2) (pos 0)
+    ∷ to-neither (pos 0) (negsuc 1)
+    ∷ to-neither (pos 2) (pos 1)
+    ∷ to-neither (negsuc 0) (pos 2)
+    ∷ to-neither (negsuc 1) (negsuc 1)
+    -- "exactly one step .. Otherwise there is none."
+    ∷ walked 3 4 10 1
+    ∷ walked 5 4 18 1
+    ∷ walked 3 6 16 1
+    ∷ walked 3 3 8 0
+    ∷ walked 4 3 11 0
+    ∷ walked 4 4 15 0
+    ∷ walked 5 2 9 0
+    ∷ walked 1 4 3 0
+    ∷ walked 1 1 0 0
     ∷ []
 
 pub worked-right : T (all-right worked)
