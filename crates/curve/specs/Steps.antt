@@ -1,5 +1,5 @@
--- How far apart the squares of successive numbers are: document 02, order 5, in its words, one definition under each of its terms. The law itself, for every
--- area, is in proofs/Steps.antt.
+-- How far apart the squares of successive numbers are: document 02, order 5, in its words, one definition under each of its terms; and, for the crews that
+-- plan on it, the steps of a walk from the first square to the last.
 use mathlib.Core.Bool.{Bool, _&&_}
 use mathlib.Core.List.{List, [], _∷_}
 use Prim.Native.Nat.{ℕ, _+_, _-_, _%_}
@@ -44,7 +44,7 @@ bend-number w h = number-of (whole w h) (bend-from w h)
 abbrev pub bend-step : Step
 bend-step = record { dx = pos 1; dy = negℤ (pos 1) }
 
--- The walk of a crew from the first square to the last: the steps of an area in order.
+-- "Crews plan cable lengths on this": the steps of an area in order, from its first square to its last.
 unfoldable pub steps-through : List Square → List Step
 steps-through [] = []
 steps-through (p ∷ []) = []
