@@ -1,23 +1,25 @@
--- What a planner takes from the law of the steps: how many steps a walk from the first square to the last has, and how many of them go across a corner; and
--- the same of the answers that two successive calls give. Steps are counted along the list of them, number by number.
-use mathlib.Core.Bool.{Bool, true, false}
+-- What a planner takes from the law of the steps: how many there are from one number to another, or through all of an area, and how many of them go across a
+-- corner; and how far apart two successive answers are. Steps are counted along the list of them, number by number.
+use mathlib.Core.Bool.{Bool, true, false, _&&_, and-eq-true-iff, true≢false}
 use mathlib.Core.List.{List, [], _∷_}
 use mathlib.Core.Logic.{_⊎_, inl, inr, ⊎-elim}
 use mathlib.Core.Path.{_≡_, refl, sym, ap, ap₂, subst, subst⁻¹, _∙_}
 use Prim.Native.Nat.{ℕ, zero, suc, _+_, _-_, _*_, _≤_, _<_}
-use native.Mathlib.Nat.{suc-add}
+use native.Mathlib.Nat.{suc-add, sub-zero, add-sub-of-le, mul-pos}
 use native.Mathlib.Omega.{arith}
-use lib.Dec.{lit≤}
-use lib.ListN.{length, getD}
+use borrow.Author.Tests.{leb-true, le-leb, ltb-true, lt-ltb}
+use lib.Dec.{leb, ltb, lit≤}
+use lib.ListN.{length, getD, take, drop, length-take, length-drop}
+use lib.Seq.{take-length, getD-take, getD-drop}
 use Rattle.terms.specs.Terms.{accepted, Figures, answered}
-use Rattle.terms.proofs.Laws.{limits, figure}
+use Rattle.terms.proofs.Laws.{limits}
 use Rattle.division.specs.Division.{Square, square, whole, curve, one, count, square-of, blocks-holding}
 use Rattle.division.proofs.Once.{length-curve}
 use Rattle.curve.specs.Lookups.{number-to-square}
 use Rattle.curve.specs.Steps.{Step, step-between, step-of, shares-side, corner-only, steps-through, walk}
-use Rattle.curve.specs.Steps.{bends, bend-from, bend-to, bend-number, bend-step}
+use Rattle.curve.specs.Steps.{stretch, bends, bend-between, bend-from, bend-to, bend-number, bend-step}
 use Rattle.curve.proofs.Promises.{number-answered, number-asked, answered-square}
-use Rattle.curve.proofs.Steps.{not-both, side-or-corner, corner-at, one-corner-step, otherwise-none}
+use Rattle.curve.proofs.Steps.{not-both, side-or-corner, corner-at, one-corner-step}
 
 -- the steps through a list of squares: one less than these, and each from a square to the next
 through-length : (zs : List Square) → length (steps-through zs) ≡ length zs - 1
@@ -66,12 +68,12 @@ kinds : (s : Step) → (shares-side s ≡ true) ⊎ (corner-only s ≡ true) →
 kinds s (inl e) = ap₂ (λ side corner. one side + one corner) e (never (corner-only s) (not-both s e))
 kinds s (inr e) = ap₂ (λ side corner. one side + one corner) (never (shares-side s) (λ f. not-both s f e)) e
 
--- "The length along the curve is known": w·h - 1 steps, of which one goes across a corner where the area bends, and none elsewhere.
 module _ (w h : ℕ) (lw : 1 ≤ w) (lh : 1 ≤ h) where
   curve-length : length (curve (whole w h)) ≡ w * h
   unfolding whole
   curve-length = length-curve (whole w h) (record { run = lw; side = lh })
 
+  -- The walk through an area has w·h - 1 steps, and its i-th is that from number i.
   pub walk-length : length (walk w h) ≡ w * h - 1
   unfolding walk
   walk-length = through-length (curve (whole w h)) ∙ ap (λ n. n - 1) curve-length
@@ -80,28 +82,83 @@ module _ (w h : ℕ) (lw : 1 ≤ w) (lh : 1 ≤ h) where
   unfolding walk step-of square-of
   walk-at i l = through-at (curve (whole w h)) i bend-step (square 0 0) (subst⁻¹ (λ (n : ℕ). i + 1 < n) curve-length l)
 
-  -- what the law says of the step from number i is so of the i-th step of the walk
-  of-walk : (P : ℕ → Step → Type 0) → ((i : ℕ) → i + 1 < w * h → P i (step-of w h i)) → (i : ℕ) → i < length (walk w h) → P i (getD (walk w h) i bend-step)
-  of-walk P law i l = let below : i + 1 < w * h = omega (arith, walk-length) in subst⁻¹ (P i) (walk-at i below) (law i below)
+  -- where the corner step lies between two numbers
+  between : (i j : ℕ) → bends w h ≡ true → i ≤ bend-number w h → bend-number w h < j → bend-between w h i j ≡ true
+  unfolding bend-between
+  between i j bent l m = rw (bent, le-leb i (bend-number w h) l, lt-ltb (bend-number w h) j m)
+
+  is-between : (i j : ℕ) → bend-between w h i j ≡ true → (bends w h ≡ true) × (i ≤ bend-number w h) × (bend-number w h < j)
+  unfolding bend-between
+  is-between i j e =
+      let bent = and-eq-true-iff (bends w h) (leb i (bend-number w h) && ltb (bend-number w h) j) .0 e in
+      let both = and-eq-true-iff (leb i (bend-number w h)) (ltb (bend-number w h) j) .0 (bent .1) in
+      (bent .0, leb-true i (bend-number w h) (both .0), ltb-true (bend-number w h) j (both .1))
+
+  -- From number i to number j there are j - i steps. Where the corner step lies between, it is one of them; all others are to a square that shares a side.
+  module _ (i j : ℕ) (l : i ≤ j) (m : j < w * h) where
+    pub stretch-length : length (stretch w h i j) ≡ j - i
+    unfolding stretch
+    stretch-length = simp (length-take, length-drop) (omega (arith, walk-length))
+
+    -- what the law says of the step from number i + n is so of the n-th step of the stretch
+    of-stretch : (P : ℕ → Step → Type 0) → ((n : ℕ) → i ≤ n → n < j → P n (step-of w h n)) → (n : ℕ) → n < length (stretch w h i j)
+        → P (i + n) (getD (stretch w h i j) n bend-step)
+    unfolding stretch
+    of-stretch P law n o =
+        let below : n < j - i = omega (arith, stretch-length) in
+        let is : getD (stretch w h i j) n bend-step ≡ step-of w h (i + n) =
+        getD-take (j - i) (drop i (walk w h)) n bend-step below ∙ getD-drop i (walk w h) n bend-step ∙ walk-at (i + n) (omega arith) in
+        subst⁻¹ (P (i + n)) is (law (i + n) (omega arith) (omega arith))
+
+    pub stretch-corners : count corner-only (stretch w h i j) ≡ one (bend-between w h i j)
+    stretch-corners = by (bend-between w h i j) refl
+      where
+        by : (t : Bool) → bend-between w h i j ≡ t → count corner-only (stretch w h i j) ≡ one t
+        by false e =
+            count-none corner-only bend-step (stretch w h i j)
+            (of-stretch (λ n s. corner-only s ≡ false)
+            (λ n from to. never _
+            (λ c. let at = corner-at w h lw lh n (omega arith) c in true≢false (sym (between i j (at .0) (omega arith) (omega arith)) ∙ e))))
+        by true e =
+            let lies = is-between i j e in
+            let there = one-corner-step w h lw lh (lies .0) in
+            count-one corner-only bend-step (stretch w h i j) (bend-number w h - i) (omega (arith, stretch-length, lies .1, lies .2))
+            (of-stretch (λ n s. n ≡ bend-number w h → corner-only s ≡ true)
+            (λ n from to is. subst⁻¹ (λ (n : ℕ). corner-only (step-of w h n) ≡ true) is (there .touches)) (bend-number w h - i)
+            (omega (arith, stretch-length, lies .1, lies .2)) (add-sub-of-le (lies .1)))
+            (λ n o other. of-stretch (λ n s. (n ≡ bend-number w h → ⊥) → corner-only s ≡ false)
+            (λ n from to other. never _ (λ c. other (there .only n (omega arith) c))) n o (λ is. other (omega arith)))
+
+    pub stretch-sides : count shares-side (stretch w h i j) ≡ j - i - one (bend-between w h i j)
+    stretch-sides =
+        let both = count-two shares-side corner-only bend-step (stretch w h i j)
+        (of-stretch (λ n s. one (shares-side s) + one (corner-only s) ≡ 1) (λ n from to. kinds (step-of w h n) (side-or-corner w h lw lh n (omega arith)))) in
+        omega (arith, stretch-length, stretch-corners)
+
+  -- So the length along the curve is known: of the w·h - 1 steps one is across a corner where the area bends, and none elsewhere.
+  whole-stretch : stretch w h 0 (w * h - 1) ≡ walk w h
+  unfolding stretch
+  whole-stretch = ap (λ n. take n (walk w h)) (sub-zero (w * h - 1) ∙ sym walk-length) ∙ take-length (walk w h)
+
+  whole-between : bend-between w h 0 (w * h - 1) ≡ bends w h
+  unfolding bend-between
+  whole-between = by (bends w h) refl
+    where
+      by : (t : Bool) → bends w h ≡ t → bend-between w h 0 (w * h - 1) ≡ t
+      by false e = rw e
+      by true e = let there = one-corner-step w h lw lh e in between 0 (w * h - 1) e (omega arith) (omega (arith, there .is-step))
 
   pub walk-corners : count corner-only (walk w h) ≡ one (bends w h)
-  walk-corners = by (bends w h) refl
-    where
-      by : (t : Bool) → bends w h ≡ t → count corner-only (walk w h) ≡ one t
-      by false e =
-          count-none corner-only bend-step (walk w h)
-          (of-walk (λ i s. corner-only s ≡ false) (λ i l. never _ (not-both (step-of w h i) (otherwise-none w h lw lh e i l))))
-      by true e =
-          let there = one-corner-step w h lw lh e in
-          count-one corner-only bend-step (walk w h) (bend-number w h) (omega (arith, walk-length, there .is-step))
-          (ap corner-only (walk-at (bend-number w h) (there .is-step)) ∙ there .touches)
-          (of-walk (λ i s. (i ≡ bend-number w h → ⊥) → corner-only s ≡ false) (λ i l other. never _ (λ c. other (there .only i l c))))
+  walk-corners =
+      ap (count corner-only) (sym whole-stretch)
+      ∙ stretch-corners 0 (w * h - 1) (omega arith) (omega (arith, mul-pos lw lh))
+      ∙ ap one whole-between
 
   pub walk-sides : count shares-side (walk w h) ≡ w * h - 1 - one (bends w h)
   walk-sides =
-      let both = count-two shares-side corner-only bend-step (walk w h)
-      (of-walk (λ i s. one (shares-side s) + one (corner-only s) ≡ 1) (λ i l. kinds (step-of w h i) (side-or-corner w h lw lh i l))) in
-      omega (arith, walk-length, walk-corners)
+      ap (count shares-side) (sym whole-stretch)
+      ∙ stretch-sides 0 (w * h - 1) (omega arith) (omega (arith, mul-pos lw lh))
+      ∙ ap₂ (λ n t. n - one t) (sub-zero (w * h - 1)) whole-between
 
 -- Two successive answers of `number_to_square`: their squares share a side, or they are those of the corner step.
 pub record Across (w h : ℕ) (p q : Square) : Type 0 where

@@ -2,17 +2,17 @@
 -- is there is seen by counting: were each step to a square beside, x + y and the number would stay both even or both odd, and at the last square they are not.
 use mathlib.Core.Bool.{Bool, true, false, _&&_, and-eq-true-iff, true≢false, cond}
 use mathlib.Core.Logic.{_⊎_, inl, inr, ⊎-elim}
-use mathlib.Core.Path.{_≡_, refl, sym, ap, ap₂, subst, subst⁻¹, _∙_}
+use mathlib.Core.Path.{_≡_, refl, sym, ap, ap₂, subst⁻¹, _∙_}
 use Prim.Native.Nat.{ℕ, zero, suc, _+_, _-_, _*_, _/_, _%_, _≤_, _<_}
 use native.Mathlib.Nat.{mul-assoc, mul-mod-left, mul-pos, div-add-mod'}
 use native.Mathlib.Numerals.{add-one}
 use native.Mathlib.Decide.{decLt}
 use native.Mathlib.Omega.{arith}
-use borrow.Author.Tests.{eqb-true, eqb-false, eq-eqb, ne-eqb, leb-true, le-leb, ltb-true, ltb-false, lt-ltb, le-ltb}
+use borrow.Author.Tests.{eqb-true, eq-eqb, leb-true, le-leb, ltb-true, ltb-false, lt-ltb, le-ltb}
 use lib.Dec.{leb, ltb, eqb}
-use lib.IntN.{ℤ, pos, negsuc, negℤ, subℕ, natAbs}
+use lib.IntN.{pos, negsuc, negℤ, subℕ, natAbs}
 use Rattle.division.specs.Division.{Square, square, whole, holds, square-of, number-of}
-use Rattle.division.proofs.Once.{square-held, number-below, square-of-number, number-of-square}
+use Rattle.division.proofs.Once.{number-below, square-of-number, number-of-square}
 use Rattle.division.proofs.Blocks.{whole-inside}
 use Rattle.division.proofs.Local.{whole-holds}
 use Rattle.curve.specs.Steps.{Step, step-between, step-of, shares-side, corner-only, bends, bend-from, bend-to, bend-number, bend-step}

@@ -1,10 +1,11 @@
 -- How far apart the squares of successive numbers are: document 02, order 5, in its words, one definition under each of its terms; and, for the crews that
--- plan on it, the steps of a walk from the first square to the last.
+-- plan on it, the steps of a walk along the numbers.
 use mathlib.Core.Bool.{Bool, _&&_}
 use mathlib.Core.List.{List, [], _∷_}
 use Prim.Native.Nat.{ℕ, _+_, _-_, _%_}
-use lib.Dec.{leb, eqb}
+use lib.Dec.{leb, ltb, eqb}
 use lib.IntN.{ℤ, pos, negℤ, subℕ, natAbs}
+use lib.ListN.{take, drop}
 use Rattle.division.specs.Division.{Square, square, whole, curve, square-of, number-of}
 
 -- "State the steps as signed differences in x and y." `subℕ m n` is m - n with its sign, and `natAbs z` is z without it.
@@ -52,3 +53,10 @@ steps-through (p ∷ q ∷ qs) = step-between p q ∷ steps-through (q ∷ qs)
 
 unfoldable pub walk : (w h : ℕ) → List Step
 walk w h = steps-through (curve (whole w h))
+
+-- Those from number i to number j, and whether the one across the corner is among them.
+unfoldable pub stretch : (w h i j : ℕ) → List Step
+stretch w h i j = take (j - i) (drop i (walk w h))
+
+unfoldable pub bend-between : (w h i j : ℕ) → Bool
+bend-between w h i j = bends w h && (leb i (bend-number w h) && ltb (bend-number w h) j)

@@ -12,7 +12,7 @@ use Rattle.terms.specs.Terms.{accepted, area-refusal}
 use Rattle.terms.specs.Comparing.{same-numbers, same-figures}
 use Rattle.division.specs.Division.{whole, choice, even-half, part, parts, parts-of, moved, against, row, curve-by, down, curve, count, square-of}
 use Rattle.curve.specs.Lookups.{unless-deep, number-to-square, square-to-number, finish-square}
-use Rattle.curve.specs.Steps.{Step, step-between, step-of, shares-side, corner-only, steps-through, walk}
+use Rattle.curve.specs.Steps.{Step, step-between, step-of, shares-side, corner-only, steps-through, walk, stretch}
 
 -- A line of the table, of a w by h area.
 pub data Case : Type 0 where
@@ -33,6 +33,8 @@ pub data Case : Type 0 where
   to-neither : (dx dy : ℤ) → Case
   -- the walk has so many steps of either kind, and no others
   walked : (w h sides corners : ℕ) → Case
+  -- so has the stretch from number i to number j
+  stretched : (w h i j sides corners : ℕ) → Case
 
 same-difference : ℤ → ℤ → Bool
 same-difference m n = leZ m n && leZ n m
@@ -44,8 +46,12 @@ is-step w h i dx dy = same-difference (step-of w h i .dx) dx && same-difference 
 abbrev by : ℤ → ℤ → Step
 by dx dy = record { dx = dx; dy = dy }
 
+counted : List Step → (sides corners : ℕ) → Bool
+counted steps sides corners =
+    eqb (count shares-side steps) sides && eqb (count corner-only steps) corners && eqb (length steps) (sides + corners)
+
 right : Case → Bool
-unfolding is-step same-difference shares-side corner-only walk steps-through count
+unfolding is-step same-difference counted shares-side corner-only walk stretch steps-through count
 right (number-refused w h number r) = same-figures (number-to-square w h number) r (0 ∷ 0 ∷ 0 ∷ [])
 right (square-refused w h x y r) = same-figures (square-to-number w h x y) r (0 ∷ 0 ∷ [])
 right (finish-refused w h r) = same-figures (finish-square w h) r (0 ∷ 0 ∷ [])
@@ -56,8 +62,8 @@ right (goes w h i dx dy) = is-step w h i dx dy
 right (to-side dx dy) = shares-side (by dx dy) && not (corner-only (by dx dy))
 right (to-corner dx dy) = corner-only (by dx dy) && not (shares-side (by dx dy))
 right (to-neither dx dy) = not (shares-side (by dx dy)) && not (corner-only (by dx dy))
-right (walked w h sides corners) =
-    eqb (count shares-side (walk w h)) sides && eqb (count corner-only (walk w h)) corners && eqb (length (walk w h)) (sides + corners)
+right (walked w h sides corners) = counted (walk w h) sides corners
+right (stretched w h i j sides corners) = counted (stretch w h i j) sides corners
 
 pub all-right : List Case → Bool
 all-right [] = true
@@ -144,6 +150,12 @@ worked =
     ∷ walked 5 2 9 0
     ∷ walked 1 4 3 0
     ∷ walked 1 1 0 0
+    -- before the corner step of 3 by 4, it alone, after it, and with it
+    ∷ stretched 3 4 0 7 7 0
+    ∷ stretched 3 4 7 8 0 1
+    ∷ stretched 3 4 8 11 3 0
+    ∷ stretched 3 4 5 9 3 1
+    ∷ stretched 3 4 5 5 0 0
     ∷ []
 
 pub worked-right : T (all-right worked)
