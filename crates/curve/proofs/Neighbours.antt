@@ -171,13 +171,13 @@ squares-after a b (q ∷ before) p = omega (arith, squares-after a b before p)
 
 module _ (a b : ℕ) (la : 1 ≤ a) (lb : 1 ≤ b) where
   -- the step from number n, by the squares of n and n + 1
-  stepping : (n : ℕ) {s t : Square} → square-of (whole a b) n ≡ s → square-of (whole a b) (n + 1) ≡ t → Next a b s t
-      → Next a b (square-of (whole a b) n) (square-of (whole a b) (n + 1))
-  stepping n e f next = rw (e, f) next
-
   abbrev At : ℕ → Type 0
   At n = Next a b (square-of (whole a b) n) (square-of (whole a b) (n + 1))
 
+  stepping : (n : ℕ) {s t : Square} → square-of (whole a b) n ≡ s → square-of (whole a b) (n + 1) ≡ t → Next a b s t → At n
+  stepping n e f next = rw (e, f) next
+
+  -- within a part, from a part to the one behind it, and so along the parts
   within-part : (before : List Part) (p : Part) (after : List Part) → parts-of (choice a b) ≡ before ++ (p ∷ after) → Climbs a b p
       → (n : ℕ) → n + 1 < area (part p (whole a b)) → At (squares-of a b before + n)
   within-part before p after e climb n l =
