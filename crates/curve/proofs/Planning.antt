@@ -2,7 +2,7 @@
 -- corner; and how far apart two successive answers are. Steps are counted along the list of them, number by number.
 use mathlib.Core.Bool.{Bool, true, false, _&&_, and-eq-true-iff, true≢false}
 use mathlib.Core.List.{List, [], _∷_}
-use mathlib.Core.Logic.{_⊎_, inl, inr, ⊎-elim}
+use mathlib.Core.Logic.{_↔_, _⊎_, inl, inr, ⊎-elim}
 use mathlib.Core.Path.{_≡_, refl, sym, ap, ap₂, subst, subst⁻¹, _∙_}
 use Prim.Native.Nat.{ℕ, zero, suc, _+_, _-_, _*_, _≤_, _<_}
 use native.Mathlib.Nat.{suc-add, sub-zero, add-sub-of-le, mul-pos}
@@ -82,17 +82,16 @@ module _ (w h : ℕ) (lw : 1 ≤ w) (lh : 1 ≤ h) where
   unfolding walk step-of square-of
   walk-at i l = through-at (curve (whole w h)) i bend-step (square 0 0) (subst⁻¹ (λ (n : ℕ). i + 1 < n) curve-length l)
 
-  -- where the corner step lies between two numbers
-  between : (i j : ℕ) → bends w h ≡ true → i ≤ bend-number w h → bend-number w h < j → bend-between w h i j ≡ true
+  -- where the corner step lies between two numbers, as a test and as what it says
+  between : (i j : ℕ) → (bend-between w h i j ≡ true) ↔ ((bends w h ≡ true) × (i ≤ bend-number w h) × (bend-number w h < j))
   unfolding bend-between
-  between i j bent l m = rw (bent, le-leb i (bend-number w h) l, lt-ltb (bend-number w h) j m)
-
-  is-between : (i j : ℕ) → bend-between w h i j ≡ true → (bends w h ≡ true) × (i ≤ bend-number w h) × (bend-number w h < j)
-  unfolding bend-between
-  is-between i j e =
-      let bent = and-eq-true-iff (bends w h) (leb i (bend-number w h) && ltb (bend-number w h) j) .0 e in
-      let both = and-eq-true-iff (leb i (bend-number w h)) (ltb (bend-number w h) j) .0 (bent .1) in
-      (bent .0, leb-true i (bend-number w h) (both .0), ltb-true (bend-number w h) j (both .1))
+  between i j =
+      let n = bend-number w h in
+      let bent = and-eq-true-iff (bends w h) (leb i n && ltb n j) in
+      let both = and-eq-true-iff (leb i n) (ltb n j) in (
+        λ e. let f = both .0 (bent .0 e .1) in (bent .0 e .0, leb-true i n (f .0), ltb-true n j (f .1)),
+        λ f. bent .1 (f .0, both .1 (le-leb i n (f .1), lt-ltb n j (f .2))),
+      )
 
   -- From number i to number j there are j - i steps. Where the corner step lies between, it is one of them; all others are to a square that shares a side.
   module _ (i j : ℕ) (l : i ≤ j) (m : j < w * h) where
@@ -118,9 +117,9 @@ module _ (w h : ℕ) (lw : 1 ≤ w) (lh : 1 ≤ h) where
             count-none corner-only bend-step (stretch w h i j)
             (of-stretch (λ n s. corner-only s ≡ false)
             (λ n from to. never _
-            (λ c. let at = corner-at w h lw lh n (omega arith) c in true≢false (sym (between i j (at .0) (omega arith) (omega arith)) ∙ e))))
+            (λ c. let at = corner-at w h lw lh n (omega arith) c in true≢false (sym (between i j .1 (at .0, omega arith, omega arith)) ∙ e))))
         by true e =
-            let lies = is-between i j e in
+            let lies = between i j .0 e in
             let there = one-corner-step w h lw lh (lies .0) in
             count-one corner-only bend-step (stretch w h i j) (bend-number w h - i) (omega (arith, stretch-length, lies .1, lies .2))
             (of-stretch (λ n s. n ≡ bend-number w h → corner-only s ≡ true)
@@ -146,7 +145,7 @@ module _ (w h : ℕ) (lw : 1 ≤ w) (lh : 1 ≤ h) where
     where
       by : (t : Bool) → bends w h ≡ t → bend-between w h 0 (w * h - 1) ≡ t
       by false e = rw e
-      by true e = let there = one-corner-step w h lw lh e in between 0 (w * h - 1) e (omega arith) (omega (arith, there .is-step))
+      by true e = let there = one-corner-step w h lw lh e in between 0 (w * h - 1) .1 (e, omega arith, omega (arith, there .is-step))
 
   pub walk-corners : count corner-only (walk w h) ≡ one (bends w h)
   walk-corners =
