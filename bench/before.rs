@@ -6,6 +6,7 @@ mod common;
 
 #[path = "."]
 mod before {
+    #[allow(dead_code)] // not every call is compared
     mod raw {
         include!(env!("BEFORE"));
     }
@@ -15,6 +16,7 @@ mod before {
 
 #[path = "."]
 mod after {
+    #[allow(dead_code)] // nor here
     #[path = "../bindings/rust/src/raw.rs"]
     mod raw;
     mod library;

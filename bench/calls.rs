@@ -2,6 +2,7 @@
 // least time of several rounds.
 #[path = "../tests/random.rs"]
 mod random;
+#[allow(dead_code)] // windows have a benchmark of their own
 #[path = "../bindings/rust/src/raw.rs"]
 mod raw;
 mod common;
