@@ -19,7 +19,7 @@ use Rattle.curve.specs.Lookups.{number-to-square}
 use Rattle.curve.specs.Steps.{Step, step-between, step-of, shares-side, corner-only, steps-through, walk}
 use Rattle.curve.specs.Steps.{stretch, bends, bend-between, bend-from, bend-to, bend-number, bend-step}
 use Rattle.curve.proofs.Promises.{number-answered, number-asked, answered-square}
-use Rattle.curve.proofs.Steps.{not-both, side-or-corner, corner-at, one-corner-step}
+use Rattle.curve.proofs.Steps.{not-both, side-or-corner, corner-at, Step-is, step-is, one-corner-step}
 
 -- the steps through a list of squares: one less than these, and each from a square to the next
 through-length : (zs : List Square) → length (steps-through zs) ≡ length zs - 1
@@ -159,7 +159,7 @@ module _ (w h : ℕ) (lw : 1 ≤ w) (lh : 1 ≤ h) where
       ∙ stretch-sides 0 (w * h - 1) (omega arith) (omega (arith, mul-pos lw lh))
       ∙ ap₂ (λ n t. n - one t) (sub-zero (w * h - 1)) whole-between
 
--- Two successive answers of `number_to_square`: their squares share a side, or they are those of the corner step.
+-- Two successive answers of `number_to_square`: the step between them is one of the five, and their squares share a side or are those of the corner step.
 pub record Across (w h : ℕ) (p q : Square) : Type 0 where
   pub bent : bends w h ≡ true
   pub from : p ≡ bend-from w h
@@ -179,6 +179,11 @@ module _ (w h i x y k x′ y′ k′ : ℕ) (e : number-to-square w h i ≡ answ
   answered-step : step-between (square x y) (square x′ y′) ≡ step-of w h i
   unfolding step-of
   answered-step = ap₂ step-between here next
+
+  pub answers-step : Step-is w h i (step-between (square x y) (square x′ y′))
+  answers-step =
+      let all = limits w h (was .0) in
+      subst⁻¹ (Step-is w h i) answered-step (step-is w h (all .w-least) (all .h-least) i (was .1))
 
   pub answers-one-corner : corner-only (step-between (square x y) (square x′ y′)) ≡ true → (bends w h ≡ true) × (i ≡ bend-number w h)
   answers-one-corner c =

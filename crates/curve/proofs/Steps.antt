@@ -10,7 +10,7 @@ use native.Mathlib.Decide.{decLt}
 use native.Mathlib.Omega.{arith}
 use borrow.Author.Tests.{eqb-true, eq-eqb, leb-true, le-leb, ltb-true, ltb-false, lt-ltb, le-ltb}
 use lib.Dec.{leb, ltb, eqb}
-use lib.IntN.{pos, negsuc, negℤ, subℕ, natAbs}
+use lib.IntN.{ℤ, pos, negsuc, negℤ, subℕ, natAbs}
 use Rattle.division.specs.Division.{Square, square, whole, holds, square-of, number-of}
 use Rattle.division.proofs.Once.{number-below, square-of-number, number-of-square}
 use Rattle.division.proofs.Blocks.{whole-inside}
@@ -154,13 +154,36 @@ sub-one m n e = rw (le-ltb m n (omega arith)) (ap pos (omega arith))
 sub-minus-one : (m n : ℕ) → m + 1 ≡ n → subℕ m n ≡ negℤ (pos 1)
 sub-minus-one m n e = rw (lt-ltb m n (omega arith)) (ap negsuc (omega arith))
 
-bend-differs : (w h : ℕ) {p q : Square} → Bent w h p q → step-between p q ≡ bend-step
+sub-none : (m n : ℕ) → m ≡ n → subℕ m n ≡ pos 0
+sub-none m n e = rw (le-ltb m n (omega arith)) (ap pos (omega arith))
+
+-- a step is known by its two differences
+differ : (p q : Square) {a b : ℤ} → subℕ (q .x) (p .x) ≡ a → subℕ (q .y) (p .y) ≡ b → step-between p q ≡ record { dx = a; dy = b }
 unfolding step-between
+differ p q e f = λ i. record { dx = e i; dy = f i }
+
+bend-differs : (w h : ℕ) {p q : Square} → Bent w h p q → step-between p q ≡ bend-step
 bend-differs w h {p} {q} t =
-    λ i. record {
-      dx = sub-one (q .x) (p .x) (omega (arith, t .from-x, t .to-x)) i;
-      dy = sub-minus-one (q .y) (p .y) (omega (arith, t .from-y, t .to-y)) i;
-    }
+    differ p q (sub-one (q .x) (p .x) (omega (arith, t .from-x, t .to-x))) (sub-minus-one (q .y) (p .y) (omega (arith, t .from-y, t .to-y)))
+
+-- "State the steps as signed differences in x and y": the four steps to a square beside, and the one of an area that bends, which is at its number only.
+pub data Step-is (w h i : ℕ) (s : Step) : Type 0 where
+  right : s ≡ record { dx = pos 1; dy = pos 0 } → Step-is w h i s
+  left : s ≡ record { dx = negℤ (pos 1); dy = pos 0 } → Step-is w h i s
+  up : s ≡ record { dx = pos 0; dy = pos 1 } → Step-is w h i s
+  down : s ≡ record { dx = pos 0; dy = negℤ (pos 1) } → Step-is w h i s
+  across : bends w h ≡ true → i ≡ bend-number w h → s ≡ record { dx = pos 1; dy = negℤ (pos 1) } → Step-is w h i s
+
+-- a square beside lies one of four ways: to the right, else to the left, else above, else below
+beside-is : (w h i : ℕ) (p q : Square) → apart p q ≡ 1 → Step-is w h i (step-between p q)
+unfolding far
+beside-is w h i p q e = by (decLt (p .x) (q .x)) (decLt (q .x) (p .x)) (decLt (p .y) (q .y))
+  where
+    by : Dec (p .x < q .x) → Dec (q .x < p .x) → Dec (p .y < q .y) → Step-is w h i (step-between p q)
+    by (yes r) l u = right (differ p q (sub-one (q .x) (p .x) (omega arith)) (sub-none (q .y) (p .y) (omega arith)))
+    by (no r) (yes l) u = left (differ p q (sub-minus-one (q .x) (p .x) (omega arith)) (sub-none (q .y) (p .y) (omega arith)))
+    by (no r) (no l) (yes u) = up (differ p q (sub-none (q .x) (p .x) (omega arith)) (sub-one (q .y) (p .y) (omega arith)))
+    by (no r) (no l) (no u) = down (differ p q (sub-none (q .x) (p .x) (omega arith)) (sub-minus-one (q .y) (p .y) (omega arith)))
 
 module _ (w h : ℕ) (lw : 1 ≤ w) (lh : 1 ≤ h) where
   -- each step, one way or the other
@@ -174,6 +197,13 @@ module _ (w h : ℕ) (lw : 1 ≤ w) (lh : 1 ≤ h) where
 
   pub corner-at : (i : ℕ) → i + 1 < w * h → corner-only (step-of w h i) ≡ true → (bends w h ≡ true) × (i ≡ bend-number w h)
   corner-at i l c = ⊎-elim (λ f. absurd (not-both (step-of w h i) f c)) (λ t. (bent-bends w h t, at-bend w h lw lh i l t)) (side-or-bend i l)
+
+  -- each step by its signed differences
+  pub step-is : (i : ℕ) → i + 1 < w * h → Step-is w h i (step-of w h i)
+  unfolding step-of
+  step-is i l =
+      ⊎-elim (beside-is w h i (at w h lw lh i) (at w h lw lh (i + 1))) (λ t. across (bent-bends w h t) (at-bend w h lw lh i l t) (bend-differs w h t))
+      (next-square w h lw lh i l)
 
   -- "squares of successive numbers share a side, with one exception"
   pub shares-a-side : (i : ℕ) → i + 1 < w * h → (bends w h ≡ true → i ≡ bend-number w h → ⊥) → shares-side (step-of w h i) ≡ true
