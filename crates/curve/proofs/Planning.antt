@@ -221,6 +221,7 @@ corner-answered w h ok bent =
     )
 
 -- A wrong division that the law turns away: made even by the half and not by the length, as the algorithm is printed, 3 by 3 gets a corner step.
+-- The list was worked by hand from the printed rule: no definition here computes it.
 pub printed : List Square
 printed = square 0 0 ∷ square 0 1 ∷ square 0 2 ∷ square 1 2 ∷ square 2 2 ∷ square 2 1 ∷ square 1 1 ∷ square 2 0 ∷ square 1 0 ∷ []
 
