@@ -2,6 +2,7 @@
 -- last digits, so ten digits are their value padded, by induction over them; where a number has ten digits of its own, both spellings are one.
 use mathlib.Core.Bool.{Bool, true, false, _||_, and-eq-true-iff}
 use mathlib.Core.List.{List, [], _∷_, _++_, append-nil, append-assoc}
+use mathlib.Core.Logic.{_⊎_, inl, inr}
 use mathlib.Core.Path.{_≡_, refl, sym, ap, ap₂, subst⁻¹, _∙_}
 use Prim.Native.Nat.{ℕ, zero, suc, _+_, _-_, _*_, _/_, _%_, _≤_, _<_, _^_}
 use native.Mathlib.Nat.{one-le-pow}
@@ -138,7 +139,7 @@ pub record Two-spellings (n : ℕ) : Type 0 where
   pub differ : decimal n ≡ padded n → ⊥
   pub unpadded-read : numeral (decimal n) ≡ Value n
   pub padded-read : numeral (padded n) ≡ Value n
-  pub no-third : (f : List ℕ) → numeral f ≡ Value n → Spelling f n
+  pub no-third : (f : List ℕ) → numeral f ≡ Value n → (f ≡ decimal n) ⊎ (f ≡ padded n)
 
 pub two-below : (n : ℕ) → n < 1000000000 → Two-spellings n
 two-below n l =
@@ -147,8 +148,12 @@ two-below n l =
       differ = λ e. let same = ap length e in let ten = padded-ten n in omega arith;
       unpadded-read = read-back n (omega arith);
       padded-read = read-padded n (omega arith);
-      no-third = λ f e. two-spellings f n e;
+      no-third = λ f e. either (two-spellings f n e);
     }
+  where
+    either : {f : List ℕ} → Spelling f n → (f ≡ decimal n) ⊎ (f ≡ padded n)
+    either (unpadded e) = inl e
+    either (in-ten e) = inr e
 
 -- "What the program prints is unpadded": it begins by the old rule, and is read back.
 pub printed-unpadded : (n : ℕ) → n ≤ largest-number → (well-begun (decimal n) ≡ true) × (numeral (decimal n) ≡ Value n)

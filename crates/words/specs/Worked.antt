@@ -61,6 +61,12 @@ worked =
     ∷ number "0999999999" 999999999
     -- "shorter fields keep the old rule, so `07` is still refused", and longer ones are none
     ∷ none "00"
+    ∷ none "030"
+    ∷ none "0030"
+    ∷ none "00030"
+    ∷ none "000030"
+    ∷ none "0000030"
+    ∷ none "00000030"
     ∷ none "000000000"
     ∷ none "000000030"
     ∷ none "099999999"
