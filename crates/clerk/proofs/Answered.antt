@@ -3,13 +3,11 @@
 use mathlib.Core.Bool.{true, false}
 use mathlib.Core.List.{List, [], _∷_}
 use mathlib.Core.Path.{_≡_, refl, ap, _∙_}
-use Prim.Native.Nat.{ℕ, _-_, _*_, _≤_}
-use native.Mathlib.Omega.{arith}
-use Rattle.words.specs.Words.{largest-number}
+use Prim.Native.Nat.{ℕ, _-_, _*_}
 use Rattle.terms.specs.declared.Area.{Area}
 use Rattle.terms.specs.declared.Refusal.{Refusal}
 use Rattle.terms.specs.Terms.{accepted, area-refusal, refusal-number, answered, refused}
-use Rattle.terms.proofs.Laws.{limits, refusal-not-0}
+use Rattle.terms.proofs.Laws.{refusal-not-0}
 use Rattle.division.specs.Division.{whole, square-of}
 use Rattle.curve.specs.Lookups.{number-to-square, square-to-number, finish-square}
 use Rattle.lines.specs.declared.Request as Requests
@@ -26,37 +24,37 @@ unfolding spec.reply
 line-refused clerk line r e = ap (spec.reply-to clerk) e
 
 -- "CELL x y k": the line `N i`, its number in either spelling, under an area, with the figures of number to square, or its refusal; and 7 with no area.
-module _ (i : ℕ) (most : i ≤ largest-number) (line : List ℕ) (says : Says-one N i line) where
+module _ (i : ℕ) (line : List ℕ) (says : Says-one N i line) where
   pub cell-replied : (area : Area) (x y k : ℕ) → number-to-square (area .w) (area .h) i ≡ answered (x ∷ y ∷ k ∷ [])
       → spec.reply (InForce area) line ≡ spec.says spec.Cell (x ∷ y ∷ k ∷ [])
   unfolding spec.reply
-  cell-replied area x y k e = ap (spec.reply-to (InForce area)) (number-spelt line i most says) ∙ ap (spec.from-call spec.Cell []) e
+  cell-replied area x y k e = ap (spec.reply-to (InForce area)) (number-spelt line i says) ∙ ap (spec.from-call spec.Cell []) e
 
   pub number-refused : (area : Area) (r : Refusal) → number-to-square (area .w) (area .h) i ≡ refused r 3
       → spec.reply (InForce area) line ≡ spec.says spec.Refused (refusal-number r ∷ [])
   unfolding spec.reply
-  number-refused area r e = ap (spec.reply-to (InForce area)) (number-spelt line i most says) ∙ ap (spec.from-call spec.Cell []) e ∙ rw (refusal-not-0 r) refl
+  number-refused area r e = ap (spec.reply-to (InForce area)) (number-spelt line i says) ∙ ap (spec.from-call spec.Cell []) e ∙ rw (refusal-not-0 r) refl
 
   pub number-without-area : spec.reply NoArea line ≡ spec.says spec.Refused (7 ∷ [])
   unfolding spec.reply
-  number-without-area = ap (spec.reply-to NoArea) (number-spelt line i most says)
+  number-without-area = ap (spec.reply-to NoArea) (number-spelt line i says)
 
 -- "NUMBER i k": the line `S x y`, likewise.
-module _ (x y : ℕ) (most : x ≤ largest-number) (most′ : y ≤ largest-number) (line : List ℕ) (says : Says-two S x y line) where
+module _ (x y : ℕ) (line : List ℕ) (says : Says-two S x y line) where
   pub number-replied : (area : Area) (i k : ℕ) → square-to-number (area .w) (area .h) x y ≡ answered (i ∷ k ∷ [])
       → spec.reply (InForce area) line ≡ spec.says spec.Number (i ∷ k ∷ [])
   unfolding spec.reply
-  number-replied area i k e = ap (spec.reply-to (InForce area)) (square-spelt x y most most′ line says) ∙ ap (spec.from-call spec.Number []) e
+  number-replied area i k e = ap (spec.reply-to (InForce area)) (square-spelt x y line says) ∙ ap (spec.from-call spec.Number []) e
 
   pub square-refused : (area : Area) (r : Refusal) → square-to-number (area .w) (area .h) x y ≡ refused r 2
       → spec.reply (InForce area) line ≡ spec.says spec.Refused (refusal-number r ∷ [])
   unfolding spec.reply
   square-refused area r e =
-      ap (spec.reply-to (InForce area)) (square-spelt x y most most′ line says) ∙ ap (spec.from-call spec.Number []) e ∙ rw (refusal-not-0 r) refl
+      ap (spec.reply-to (InForce area)) (square-spelt x y line says) ∙ ap (spec.from-call spec.Number []) e ∙ rw (refusal-not-0 r) refl
 
   pub square-without-area : spec.reply NoArea line ≡ spec.says spec.Refused (7 ∷ [])
   unfolding spec.reply
-  square-without-area = ap (spec.reply-to NoArea) (square-spelt x y most most′ line says)
+  square-without-area = ap (spec.reply-to NoArea) (square-spelt x y line says)
 
 -- "AREA w h n fx fy (n squares, finish square)", whatever was in force; and 1 for two numbers that are no area. "AREA lines print the new value": the square
 -- of number w·h - 1.
@@ -65,12 +63,8 @@ module _ (clerk : Clerk) (w h : ℕ) (line : List ℕ) (says : Says-two AREA w h
       → spec.reply clerk line
       ≡ spec.says spec.Area-set (w ∷ h ∷ (w * h) ∷ square-of (whole w h) (w * h - 1) .x ∷ square-of (whole w h) (w * h - 1) .y ∷ [])
   unfolding spec.reply finish-square
-  area-replied ok =
-      let all = limits w h ok in
-      let wide = all .w-most in
-      let high = all .h-most in
-      ap (spec.reply-to clerk) (area-spelt w h (omega arith) (omega arith) line says) ∙ rw ok refl
+  area-replied ok = ap (spec.reply-to clerk) (area-spelt w h line says) ∙ rw ok refl
 
-  pub area-refused : w ≤ largest-number → h ≤ largest-number → accepted w h ≡ false → spec.reply clerk line ≡ spec.says spec.Refused (1 ∷ [])
+  pub area-refused : accepted w h ≡ false → spec.reply clerk line ≡ spec.says spec.Refused (1 ∷ [])
   unfolding spec.reply finish-square area-refusal
-  area-refused most most′ bad = ap (spec.reply-to clerk) (area-spelt w h most most′ line says) ∙ rw bad refl
+  area-refused bad = ap (spec.reply-to clerk) (area-spelt w h line says) ∙ rw bad refl

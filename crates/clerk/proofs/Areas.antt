@@ -10,7 +10,6 @@ use lib.ListN.{getD, take}
 use lib.Seq.{getD-take}
 use Rattle.terms.specs.declared.Area.{Area}
 use Rattle.terms.specs.Terms.{accepted, area-refusal, refusal-number, Figures}
-use Rattle.terms.proofs.Laws.{limits}
 use Rattle.curve.specs.Lookups.{number-to-square, square-to-number, finish-square}
 use Rattle.lines.specs.declared.Request.{Request}
 use Rattle.lines.specs.declared.Request as Requests
@@ -155,8 +154,4 @@ module _ (clerk : Clerk) (line : List ℕ) where
 pub area-line-sets : (clerk : Clerk) (w h : ℕ) → accepted w h ≡ true → (line : List ℕ) → Says-two AREA w h line
     → spec.after clerk line ≡ InForce (record { w = w; h = h })
 unfolding spec.after
-area-line-sets clerk w h ok line says =
-    let all = limits w h ok in
-    let wide = all .w-most in
-    let high = all .h-most in
-    ap (spec.clerk-after clerk (begins line AREA)) (area-spelt w h (omega arith) (omega arith) line says) ∙ rw ok refl
+area-line-sets clerk w h ok line says = ap (spec.clerk-after clerk (begins line AREA)) (area-spelt w h line says) ∙ rw ok refl

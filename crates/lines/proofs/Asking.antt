@@ -57,7 +57,12 @@ module _ (line first : List ℕ) where
       by true true n e f = tt
       by true false NoNumber e f = tt
       by true false (Value i) e f =
-          record { field = a; spelt = two-spellings a i f; is = is ∙ ap (λ w. w ++ (32 ∷ a)) (same-true first N e) }
+          record {
+            field = a;
+            most = reads a i f .most;
+            spelt = two-spellings a i f;
+            is = is ∙ ap (λ w. w ++ (32 ∷ a)) (same-true first N e);
+          }
 
   -- AREA and S alike: what is asked with two numbers is said by the word and them
   module _ (a b : List ℕ) (is : line ≡ first ++ (32 ∷ (a ++ (32 ∷ b)))) where
@@ -74,6 +79,8 @@ module _ (line first : List ℕ) where
             record {
               first = a;
               second = b;
+              first-most = reads a x f .most;
+              second-most = reads b y g .most;
               first-spelt = two-spellings a x f;
               second-spelt = two-spellings b y g;
               is = is ∙ ap (λ w. w ++ (32 ∷ (a ++ (32 ∷ b)))) (same-true first known e);
@@ -286,33 +293,42 @@ module _ {f : List ℕ} {n : ℕ} (most : n ≤ largest-number) (spelt : Spellin
   spelt-filled = record { some = read-spelt .some; whole = digits-spaceless f (read-spelt .digits) }
 
 -- `N i`, `AREA w h` and `S x y`, in whichever spellings, ask for these numbers.
-pub number-spelt : (line : List ℕ) (n : ℕ) → n ≤ largest-number → Says (AskNumber n) line → request line ≡ AskNumber n
-number-spelt line n most s =
-    let few = read-spelt most (s .spelt) .few in
+pub number-spelt : (line : List ℕ) (n : ℕ) → Says (AskNumber n) line → request line ≡ AskNumber n
+number-spelt line n s =
+    let few = read-spelt (s .most) (s .spelt) .few in
     ap request (s .is)
-    ∙ number-line (s .field) (spelt-filled most (s .spelt)) (omega arith) .0 n (read-so (s .field) n most (s .spelt))
+    ∙ number-line (s .field) (spelt-filled (s .most) (s .spelt)) (omega arith) .0 n (read-so (s .field) n (s .most) (s .spelt))
 
-module _ (n m : ℕ) (most : n ≤ largest-number) (most′ : m ≤ largest-number) where
-  few : (known line : List ℕ) (s : Says-two known n m line) → length (s .first ++ (32 ∷ s .second)) ≤ 21
-  few known line s =
-      let one = read-spelt most (s .first-spelt) .few in
-      let other = read-spelt most′ (s .second-spelt) .few in
-      let size = length-append (s .first) (32 ∷ s .second) in
-      omega arith
+module _ (n m : ℕ) (line : List ℕ) where
+  -- both fields of a line of two numbers, filled, read as these, and short
+  module _ (known : List ℕ) (s : Says-two known n m line) where
+    few : length (s .first ++ (32 ∷ s .second)) ≤ 21
+    few =
+        let one = read-spelt (s .first-most) (s .first-spelt) .few in
+        let other = read-spelt (s .second-most) (s .second-spelt) .few in
+        let size = length-append (s .first) (32 ∷ s .second) in
+        omega arith
 
-  pub area-spelt : (line : List ℕ) → Says (SetArea n m) line → request line ≡ SetArea n m
-  area-spelt line s =
-      let room = few AREA line s in
+    one-filled : Filled (s .first)
+    one-filled = spelt-filled (s .first-most) (s .first-spelt)
+
+    other-filled : Filled (s .second)
+    other-filled = spelt-filled (s .second-most) (s .second-spelt)
+
+    both-asked : (asked : ℕ → ℕ → Request) {q : Request} → Asked-two asked (s .first) (s .second) q → q ≡ asked n m
+    both-asked asked by = by .0 n m (read-so (s .first) n (s .first-most) (s .first-spelt)) (read-so (s .second) m (s .second-most) (s .second-spelt))
+
+  pub area-spelt : Says (SetArea n m) line → request line ≡ SetArea n m
+  area-spelt s =
+      let room = few AREA s in
       ap request (s .is)
-      ∙ area-line (s .first) (s .second) (spelt-filled most (s .first-spelt)) (spelt-filled most′ (s .second-spelt)) (omega arith) .0 n m
-      (read-so (s .first) n most (s .first-spelt)) (read-so (s .second) m most′ (s .second-spelt))
+      ∙ both-asked AREA s SetArea (area-line (s .first) (s .second) (one-filled AREA s) (other-filled AREA s) (omega arith))
 
-  pub square-spelt : (line : List ℕ) → Says (AskSquare n m) line → request line ≡ AskSquare n m
-  square-spelt line s =
-      let room = few S line s in
+  pub square-spelt : Says (AskSquare n m) line → request line ≡ AskSquare n m
+  square-spelt s =
+      let room = few S s in
       ap request (s .is)
-      ∙ square-line (s .first) (s .second) (spelt-filled most (s .first-spelt)) (spelt-filled most′ (s .second-spelt)) (omega arith) .0 n m
-      (read-so (s .first) n most (s .first-spelt)) (read-so (s .second) m most′ (s .second-spelt))
+      ∙ both-asked S s AskSquare (square-line (s .first) (s .second) (one-filled S s) (other-filled S s) (omega arith))
 
 -- So the promise's two clauses agree: what a line asks it says.
 pub told-so : (line : List ℕ) {q : Request} → q ≡ request line → (asked q ≡ asked (request line)) × Says q line

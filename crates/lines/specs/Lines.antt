@@ -2,7 +2,7 @@
 use mathlib.Core.Bool.{Bool, true, false, cond, _||_}
 use mathlib.Core.List.{List, [], _∷_, _++_}
 use mathlib.Core.Path.{_≡_}
-use Prim.Native.Nat.{ℕ}
+use Prim.Native.Nat.{ℕ, _≤_}
 use lib.Dec.{leb, eqb}
 use lib.ListN.{length}
 use Rattle.terms.specs.declared.Refusal.the-variants.{NotANumber, WrongShape, LongLine}
@@ -12,7 +12,7 @@ use Rattle.words.specs.declared.Numeral.the-variants.{Value, NoNumber}
 use Rattle.lines.specs.declared.Request.{Request}
 use Rattle.lines.specs.declared.Request.the-variants.{SetArea, AskNumber, AskSquare, Refused}
 use Rattle.words.specs.Letters.{bytes}
-use Rattle.words.specs.Words.{numeral, Spelling, same-bytes}
+use Rattle.words.specs.Words.{largest-number, numeral, Spelling, same-bytes}
 
 -- A byte put before the first of some pieces, or a piece of its own where there is none.
 abbrev pub onto : ℕ → List (List ℕ) → List (List ℕ)
@@ -87,15 +87,18 @@ asked (AskSquare x y) = record { refusal = 0; word = S; numbers = x ∷ y ∷ []
 asked (Refused r) = record { refusal = refusal-number r; word = []; numbers = [] }
 
 -- "Each value .. has two spellings, and the reader's contract says which two": a line that asks for something is the shape's word and its numbers, each in
--- one of its spellings, with a space before each, and nothing else.
+-- one of its spellings, with a space before each, and nothing else. A number over the largest has none: its last ten digits spell another.
 pub record Says-one (word : List ℕ) (n : ℕ) (line : List ℕ) : Type 0 where
   pub field : List ℕ
+  pub most : n ≤ largest-number
   pub spelt : Spelling field n
   pub is : line ≡ word ++ (32 ∷ field)
 
 pub record Says-two (word : List ℕ) (n m : ℕ) (line : List ℕ) : Type 0 where
   pub first : List ℕ
   pub second : List ℕ
+  pub first-most : n ≤ largest-number
+  pub second-most : m ≤ largest-number
   pub first-spelt : Spelling first n
   pub second-spelt : Spelling second m
   pub is : line ≡ word ++ (32 ∷ (first ++ (32 ∷ second)))
