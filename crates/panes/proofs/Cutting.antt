@@ -6,6 +6,7 @@ use Prim.Native.Nat.{ℕ, _+_, _-_, _*_, _/_, _≤_, _<_}
 use native.Mathlib.Nat.{mul-le-mul}
 use native.Mathlib.Omega.{arith}
 use lib.ListN.{length}
+use Rattle.terms.specs.Terms.{past-32-bits}
 use Rattle.division.specs.declared.Choice.{Choice}
 use Rattle.division.specs.declared.Choice.the-variants.{LongCut, UCut}
 use Rattle.division.specs.Division.{whole, choice, even-half, Part, First, Second, A, B, C, part, parts-of, curve}
@@ -15,6 +16,7 @@ use Rattle.division.proofs.Cases.{rule, in-two, in-three, long-lengths, u-lengt
 use Rattle.division.proofs.Cuts.{inside-parts, long-areas, u-areas}
 use Rattle.division.proofs.Once.{length-curve}
 use Rattle.division.proofs.Blocks.{whole-inside}
+use Rattle.division.proofs.Walks.{Sums-fit, sums-fit}
 use Rattle.panes.specs.declared.Pane.{Pane}
 use Rattle.panes.specs.Panes.{in-pane, pane-in, Tally, tally, no-runs, runs-in, over, seen, Walks, Holds}
 use Rattle.panes.proofs.Stretches.{over-append, Grows, over-grows}
@@ -85,6 +87,13 @@ module _ {p : Pane} {n word m : ℕ} (cut : Cut LongCut p n word m) where
       omega arith in
       let s : 1 * 1 ≤ (p .a - e) * p .b = mul-le-mul rest (cut .1 .0 .b-least) in
       record { sum = omega arith; first-some = omega arith; second-some = omega arith }
+
+  -- the first part's squares, and the number behind them, are 32-bit numbers
+  pub long-fits : {e : ℕ} → e ≡ even-half (p .a) → (e * p .b < past-32-bits) × (n + e * p .b < past-32-bits)
+  long-fits {e} is =
+      let all = long-sum e is .sum in
+      let room = cut .1 .0 .room in
+      (omega arith, omega arith)
 
   pub first-call : (q : Pane) → q ≡ pane-in First p → Call q n word m
   first-call q is =
@@ -177,10 +186,8 @@ module _ {p : Pane} {n word m : ℕ} (cut : Cut UCut p n word m) where
       (inside-parts (p .a) (p .b) k (whole-inside (p .a) (p .b) (cut .1 .0 .a-least) (cut .1 .0 .b-least)) (in-three (u-two .0) (u-two .1) are)) in
       record { in-a = all .0; in-b = all .1 .0; in-c = all .1 .1 .0 }
 
-  -- how the three parts' squares add up, and the sums on the way
+  -- how the three parts' squares add up
   pub record U-sum (e : ℕ) : Type 0 where
-    pub half-least : 1 ≤ e
-    pub half-less : e < p .b
     pub sum : e * (p .a / 2) + (p .a * (p .b - e) + e * (p .a - p .a / 2)) ≡ p .a * p .b
     pub a-some : 1 ≤ e * (p .a / 2)
     pub b-some : 1 ≤ p .a * (p .b - e)
@@ -195,7 +202,12 @@ module _ {p : Pane} {n word m : ℕ} (cut : Cut UCut p n word m) where
       let above : 1 ≤ p .b - e = omega arith in
       let f : 1 * 1 ≤ e * (p .a / 2) = mul-le-mul (half .pos) middle in
       let s : 1 * 1 ≤ p .a * (p .b - e) = mul-le-mul (cut .1 .0 .a-least) above in
-      record { half-least = half .pos; half-less = less; sum = omega arith; a-some = omega arith; b-some = omega arith }
+      record { sum = omega arith; a-some = omega arith; b-some = omega arith }
+
+  pub u-fits : {e : ℕ} → e ≡ even-half (p .b) → Sums-fit n (p .a) (p .b) e
+  u-fits {e} is =
+      let room = cut .1 .0 .room in
+      sums-fit n (p .a) (p .b) e (u-two .1) is (omega arith)
 
   module _ {e : ℕ} (half : e ≡ even-half (p .b)) where
     abbrev pub to-b : ℕ

@@ -2,7 +2,7 @@
 -- three times the block's area, plus 0 for a cut, 1 for `count_cut` and 2 for `count_pane`, which are three calls on one block.
 use mathlib.Core.Path.{refl, sym, _∙_}
 use Rattle.panes.proofs.Parts.{no-run, no-side, none-seen, whole-seen, run-seen, side-seen}
-use Rattle.panes.proofs.Cutting.{to-cut, long-two, long-sum, first-call, second-call, second-told, u-two, u-sum, a-call, b-call, c-call, c-told}
+use Rattle.panes.proofs.Cutting.{to-cut, long-two, long-fits, first-call, second-call, second-told, u-two, u-fits, a-call, b-call, c-call, c-told}
 use Rattle.panes.proofs.Straight.{whole-joins, run-joins, side-joins, leaf-of}
 use Rattle.panes.proofs.Shapes.{count-joined}
 use Rattle.panes.specs.Panes.{pane-at, tally}
@@ -11,7 +11,7 @@ use mathlib.Core.Path.{sym, _∙_}
 use Prim.Native.Nat.{_+_, _*_}
 use native.Mathlib.Omega.{arith}
 use Prim.Native.Nat.{ℕ, _<_}
-use borrow.Fn.Kinds.{In}
+use borrow.Fn.Kinds.{In, Out}
 use borrow.Fn.PlainCycle.{Measures, is, falls, and}
 use Rattle.panes.proofs.count_cut.Reads as count-cut
 use Rattle.panes.proofs.count_cut.Kinds as count-cut-kinds
@@ -132,6 +132,30 @@ count-u-calls t = (
   in-c-reads.Asked,
   in-c-reads.Learnt,
 )
+
+-- a stop of a cut that is called at a measure t, by the record of the stop
+abbrev Long : (count-long-lts.Claims → In 0 count-long-kinds.ps → Out 0 count-long-kinds.ps count-long-kinds.r → Type 0) → ℕ → Type 0
+Long Stop t = Stop (count-long-calls t) (count-long-at t) count-long.Post
+
+abbrev U : (count-u-lts.Claims → In 0 count-u-kinds.ps → Out 0 count-u-kinds.ps count-u-kinds.r → Type 0) → ℕ → Type 0
+U Stop t = Stop (count-u-calls t) (count-u-at t) count-u.Post
+
+-- the stops on the way to the second part's pane, from there back: its first part walked and seen, its half, and its start
+abbrev long-way : {t : ℕ} → Long count-long-lts.After-in-second t
+    → Long count-long-lts.After-count-pane t × Long count-long-lts.After-in-first t × Long count-long-lts.After-even-half t × Long count-long-lts.Start t
+long-way at-in-second =
+    let at-count-pane = at-in-second .before in
+    let at-in-first = at-count-pane .before in
+    let at-even-half = at-in-first .before in
+    (at-count-pane, at-in-first, at-even-half, at-even-half .before)
+
+abbrev u-way : {t : ℕ} → U count-u-lts.After-in-b t
+    → U count-u-lts.After-count-pane t × U count-u-lts.After-in-a t × U count-u-lts.After-even-half t × U count-u-lts.Start t
+u-way at-in-b =
+    let at-count-pane = at-in-b .before in
+    let at-in-a = at-count-pane .before in
+    let at-even-half = at-in-a .before .before .before .before in
+    (at-count-pane, at-in-a, at-even-half, at-even-half .before)
 
 count-cut-choose-requires : (t : ℕ) → count-cut-lts.Need-choose-requires (count-cut-calls t) (count-cut-at t) count-cut.Post
 count-cut-choose-requires t c κs = (c .pre .1 .0 .a-limit, c .pre .1 .0 .b-limit)
@@ -279,37 +303,25 @@ count-long-in-second-requires t c κs =
 
 count-long-mul-count-pane : (t : ℕ) → count-long-lts.Need-mul-count-pane (count-long-calls t) (count-long-at t) count-long.Post
 count-long-mul-count-pane t c =
-    let at-even-half = c .before .before .before .before in
-    let start = at-even-half .before in
-    let sum = long-sum (start .pre) (at-even-half .even-half .result) (at-even-half .even-half .ensures) .sum in
-    let room = start .pre .1 .0 .room in
-    record { fits = omega arith }
+    let (at-count-pane, at-in-first, at-even-half, start) = long-way (c .before) in
+    record { fits = long-fits (start .pre) (at-even-half .even-half .ensures) .0 }
 
 count-long-add-count-pane : (t : ℕ) → count-long-lts.Need-add-count-pane (count-long-calls t) (count-long-at t) count-long.Post
 count-long-add-count-pane t c =
-    let at-even-half = c .before .before .before .before in
-    let start = at-even-half .before in
-    let sum = long-sum (start .pre) (at-even-half .even-half .result) (at-even-half .even-half .ensures) .sum in
-    let room = start .pre .1 .0 .room in
-    record { fits = omega arith }
+    let (at-count-pane, at-in-first, at-even-half, start) = long-way (c .before) in
+    record { fits = long-fits (start .pre) (at-even-half .even-half .ensures) .1 }
 
 count-long-count-pane-requires-2 : (t : ℕ) → count-long-lts.Need-count-pane-requires-2 (count-long-calls t) (count-long-at t) count-long.Post
 count-long-count-pane-requires-2 t c κs =
     let at-in-second = c .before in
-    let at-count-pane = at-in-second .before in
-    let at-in-first = at-count-pane .before in
-    let at-even-half = at-in-first .before in
-    let start = at-even-half .before in
+    let (at-count-pane, at-in-first, at-even-half, start) = long-way at-in-second in
     second-call (start .pre) (at-even-half .even-half .ensures) (at-in-first .in-first .ensures) (at-in-second .in-second .ensures) []
     (at-count-pane .count-pane .ensures)
 
 count-long-returns : (t : ℕ) → count-long-lts.Need-returns (count-long-calls t) (count-long-at t) count-long.Post
 count-long-returns t c =
     let at-in-second = c .before .before in
-    let at-count-pane = at-in-second .before in
-    let at-in-first = at-count-pane .before in
-    let at-even-half = at-in-first .before in
-    let start = at-even-half .before in
+    let (at-count-pane, at-in-first, at-even-half, start) = long-way at-in-second in
     second-told (start .pre) (at-even-half .even-half .ensures) (at-in-first .in-first .ensures) (at-in-second .in-second .ensures) []
     (at-count-pane .count-pane .ensures) (c .count-pane2 .ensures)
 
@@ -371,41 +383,27 @@ count-u-even-half-requires t c κs = c .pre .1 .0 .b-limit
 count-u-mul-to-b : (t : ℕ) → count-u-lts.Need-mul-to-b (count-u-calls t) (count-u-at t) count-u.Post
 count-u-mul-to-b t c =
     let at-even-half = c .before in
-    let start = at-even-half .before in
-    let sum = u-sum (start .pre) (at-even-half .even-half .result) (at-even-half .even-half .ensures) .sum in
-    let room = start .pre .1 .0 .room in
-    record { fits = omega arith }
+    record { fits = u-fits (at-even-half .before .pre) (at-even-half .even-half .ensures) .in-a }
 
 count-u-add-to-b : (t : ℕ) → count-u-lts.Need-add-to-b (count-u-calls t) (count-u-at t) count-u.Post
 count-u-add-to-b t c =
     let at-even-half = c .before in
-    let start = at-even-half .before in
-    let sum = u-sum (start .pre) (at-even-half .even-half .result) (at-even-half .even-half .ensures) .sum in
-    let room = start .pre .1 .0 .room in
-    record { fits = omega arith }
+    record { fits = u-fits (at-even-half .before .pre) (at-even-half .even-half .ensures) .to-b }
 
 count-u-sub-to-c : (t : ℕ) → count-u-lts.Need-sub-to-c (count-u-calls t) (count-u-at t) count-u.Post
 count-u-sub-to-c t c =
     let at-even-half = c .before .before in
-    let start = at-even-half .before in
-    let less = u-sum (start .pre) (at-even-half .even-half .result) (at-even-half .even-half .ensures) .half-less in
-    omega arith
+    u-fits (at-even-half .before .pre) (at-even-half .even-half .ensures) .half
 
 count-u-mul-to-c : (t : ℕ) → count-u-lts.Need-mul-to-c (count-u-calls t) (count-u-at t) count-u.Post
 count-u-mul-to-c t c =
     let at-even-half = c .before .before .before in
-    let start = at-even-half .before in
-    let sum = u-sum (start .pre) (at-even-half .even-half .result) (at-even-half .even-half .ensures) .sum in
-    let room = start .pre .1 .0 .room in
-    record { fits = omega arith }
+    record { fits = u-fits (at-even-half .before .pre) (at-even-half .even-half .ensures) .in-b }
 
 count-u-add-to-c : (t : ℕ) → count-u-lts.Need-add-to-c (count-u-calls t) (count-u-at t) count-u.Post
 count-u-add-to-c t c =
     let at-even-half = c .before .before .before in
-    let start = at-even-half .before in
-    let sum = u-sum (start .pre) (at-even-half .even-half .result) (at-even-half .even-half .ensures) .sum in
-    let room = start .pre .1 .0 .room in
-    record { fits = omega arith }
+    record { fits = u-fits (at-even-half .before .pre) (at-even-half .even-half .ensures) .to-c }
 
 count-u-in-a-requires : (t : ℕ) → count-u-lts.Need-in-a-requires (count-u-calls t) (count-u-at t) count-u.Post
 count-u-in-a-requires t c κs = c .before .before .before .before .pre .1 .0 .b-limit
@@ -423,10 +421,7 @@ count-u-in-b-requires t c κs =
 
 count-u-count-pane-requires-2 : (t : ℕ) → count-u-lts.Need-count-pane-requires-2 (count-u-calls t) (count-u-at t) count-u.Post
 count-u-count-pane-requires-2 t c κs =
-    let at-count-pane = c .before in
-    let at-in-a = at-count-pane .before in
-    let at-even-half = at-in-a .before .before .before .before in
-    let start = at-even-half .before in
+    let (at-count-pane, at-in-a, at-even-half, start) = u-way c in
     b-call (start .pre) (at-even-half .even-half .ensures) (at-in-a .in-a .ensures) (c .in-b .ensures) refl []
     (at-count-pane .count-pane .ensures)
 
@@ -440,10 +435,7 @@ count-u-count-pane-requires-3 : (t : ℕ) → count-u-lts.Need-count-pane-requir
 count-u-count-pane-requires-3 t c κs =
     let at-count-pane2 = c .before in
     let at-in-b = at-count-pane2 .before in
-    let at-count-pane = at-in-b .before in
-    let at-in-a = at-count-pane .before in
-    let at-even-half = at-in-a .before .before .before .before in
-    let start = at-even-half .before in
+    let (at-count-pane, at-in-a, at-even-half, start) = u-way at-in-b in
     c-call (start .pre) (at-even-half .even-half .ensures) (at-in-a .in-a .ensures) (at-in-b .in-b .ensures) (c .in-c .ensures) []
     (at-count-pane .count-pane .ensures) (at-count-pane2 .count-pane2 .ensures)
 
@@ -452,10 +444,7 @@ count-u-returns t c =
     let at-in-c = c .before in
     let at-count-pane2 = at-in-c .before in
     let at-in-b = at-count-pane2 .before in
-    let at-count-pane = at-in-b .before in
-    let at-in-a = at-count-pane .before in
-    let at-even-half = at-in-a .before .before .before .before in
-    let start = at-even-half .before in
+    let (at-count-pane, at-in-a, at-even-half, start) = u-way at-in-b in
     c-told (start .pre) (at-even-half .even-half .ensures) (at-in-a .in-a .ensures) (at-in-b .in-b .ensures) (at-in-c .in-c .ensures) []
     (at-count-pane .count-pane .ensures) (at-count-pane2 .count-pane2 .ensures) (c .count-pane3 .ensures)
 

@@ -1,15 +1,15 @@
 -- The four functions of the walk that writes meet their contracts, by the laws that the walk that counts has too, and room for all pairs is room for those of
 -- each part. The measure is three times the block's area, plus 0 for a cut, 1 for `write_cut` and 2 for `write_pane`.
-use Rattle.panes.proofs.Cutting.{to-cut, cut-of, long-two, long-sum, first-call, first-holds, second-call, second-holds, second-told}
+use Rattle.panes.proofs.Cutting.{to-cut, cut-of, long-two, long-fits, first-call, first-holds, second-call, second-holds, second-told}
 use Rattle.panes.proofs.Parts.{no-run, no-side, none-seen, whole-seen, run-seen, side-seen}
-use Rattle.panes.proofs.Cutting.{u-two, u-sum, a-call, a-holds, b-call, b-holds, c-call, c-holds, c-told}
+use Rattle.panes.proofs.Cutting.{u-two, u-fits, a-call, a-holds, b-call, b-holds, c-call, c-holds, c-told}
 use Rattle.panes.proofs.Straight.{holds-as, whole-joins, run-joins, side-joins, leaf-of}
 use Rattle.panes.specs.Panes.{pane-at, tally}
 use mathlib.Core.Path.{refl, sym, _∙_}
 use Prim.Native.Nat.{_+_, _*_}
 use native.Mathlib.Omega.{arith}
 use Prim.Native.Nat.{ℕ, _<_}
-use borrow.Fn.Kinds.{In}
+use borrow.Fn.Kinds.{In, Out}
 use borrow.Fn.PlainCycle.{Measures, is, falls, and}
 use Rattle.panes.proofs.write_cut.Reads as write-cut
 use Rattle.panes.proofs.write_cut.Kinds as write-cut-kinds
@@ -130,6 +130,30 @@ write-u-calls t = (
   in-c-reads.Asked,
   in-c-reads.Learnt,
 )
+
+-- a stop of a cut that is called at a measure t, by the record of the stop
+abbrev Long : (write-long-lts.Claims → In 1 write-long-kinds.ps → Out 1 write-long-kinds.ps write-long-kinds.r → Type 0) → ℕ → Type 0
+Long Stop t = Stop (write-long-calls t) (write-long-at t) write-long.Post
+
+abbrev U : (write-u-lts.Claims → In 1 write-u-kinds.ps → Out 1 write-u-kinds.ps write-u-kinds.r → Type 0) → ℕ → Type 0
+U Stop t = Stop (write-u-calls t) (write-u-at t) write-u.Post
+
+-- the stops on the way to the second part's pane, from there back: its first part walked and seen, its half, and its start
+abbrev long-way : {t : ℕ} → Long write-long-lts.After-in-second t
+    → Long write-long-lts.After-write-pane t × Long write-long-lts.After-in-first t × Long write-long-lts.After-even-half t × Long write-long-lts.Start t
+long-way at-in-second =
+    let at-write-pane = at-in-second .before .before .before .before in
+    let at-in-first = at-write-pane .before in
+    let at-even-half = at-in-first .before .before in
+    (at-write-pane, at-in-first, at-even-half, at-even-half .before .before)
+
+abbrev u-way : {t : ℕ} → U write-u-lts.After-in-b t
+    → U write-u-lts.After-write-pane t × U write-u-lts.After-in-a t × U write-u-lts.After-even-half t × U write-u-lts.Start t
+u-way at-in-b =
+    let at-write-pane = at-in-b .before .before .before .before in
+    let at-in-a = at-write-pane .before in
+    let at-even-half = at-in-a .before .before .before .before .before in
+    (at-write-pane, at-in-a, at-even-half, at-even-half .before .before)
 
 write-cut-choose-requires : (t : ℕ) → write-cut-lts.Need-choose-requires (write-cut-calls t) (write-cut-at t) write-cut.Post
 write-cut-choose-requires t c κs =
@@ -337,29 +361,18 @@ write-long-in-second-requires t c κs =
 
 write-long-mul-write-pane : (t : ℕ) → write-long-lts.Need-mul-write-pane (write-long-calls t) (write-long-at t) write-long.Post
 write-long-mul-write-pane t c =
-    let at-in-first = c .before .before .before .before .before .before in
-    let at-even-half = at-in-first .before .before in
-    let start = at-even-half .before .before in
-    let sum = long-sum (cut-of (start .pre)) (at-even-half .even-half .result) (at-even-half .even-half .ensures) .sum in
-    let room = start .pre .1 .0 .room in
-    record { fits = omega arith }
+    let (at-write-pane, at-in-first, at-even-half, start) = long-way (c .before) in
+    record { fits = long-fits (cut-of (start .pre)) (at-even-half .even-half .ensures) .0 }
 
 write-long-add-write-pane : (t : ℕ) → write-long-lts.Need-add-write-pane (write-long-calls t) (write-long-at t) write-long.Post
 write-long-add-write-pane t c =
-    let at-in-first = c .before .before .before .before .before .before in
-    let at-even-half = at-in-first .before .before in
-    let start = at-even-half .before .before in
-    let sum = long-sum (cut-of (start .pre)) (at-even-half .even-half .result) (at-even-half .even-half .ensures) .sum in
-    let room = start .pre .1 .0 .room in
-    record { fits = omega arith }
+    let (at-write-pane, at-in-first, at-even-half, start) = long-way (c .before) in
+    record { fits = long-fits (cut-of (start .pre)) (at-even-half .even-half .ensures) .1 }
 
 write-long-write-pane-requires-2 : (t : ℕ) → write-long-lts.Need-write-pane-requires-2 (write-long-calls t) (write-long-at t) write-long.Post
 write-long-write-pane-requires-2 t c κs =
     let at-in-second = c .before in
-    let at-write-pane = at-in-second .before .before .before .before in
-    let at-in-first = at-write-pane .before in
-    let at-even-half = at-in-first .before .before in
-    let start = at-even-half .before .before in
+    let (at-write-pane, at-in-first, at-even-half, start) = long-way at-in-second in
     let cut = cut-of (start .pre) in
     let first = at-write-pane .write-pane in
     let call = second-call cut (at-even-half .even-half .ensures) (at-in-first .in-first .ensures) (at-in-second .in-second .ensures)
@@ -379,10 +392,7 @@ write-long-returns : (t : ℕ) → write-long-lts.Need-returns (write-long-calls
 write-long-returns t c =
     let at-write-pane2 = c .before .before in
     let at-in-second = at-write-pane2 .before .before in
-    let at-write-pane = at-in-second .before .before .before .before in
-    let at-in-first = at-write-pane .before in
-    let at-even-half = at-in-first .before .before in
-    let start = at-even-half .before .before in
+    let (at-write-pane, at-in-first, at-even-half, start) = long-way at-in-second in
     second-told (cut-of (start .pre)) (at-even-half .even-half .ensures) (at-in-first .in-first .ensures)
     (at-in-second .in-second .ensures) (start .args .runs .now) (at-write-pane .write-pane .ensures) (at-write-pane2 .write-pane2 .ensures)
 
@@ -465,41 +475,27 @@ write-u-even-half-requires t c κs = c .before .pre .1 .0 .b-limit
 write-u-mul-to-b : (t : ℕ) → write-u-lts.Need-mul-to-b (write-u-calls t) (write-u-at t) write-u.Post
 write-u-mul-to-b t c =
     let at-even-half = c .before in
-    let start = at-even-half .before .before in
-    let sum = u-sum (cut-of (start .pre)) (at-even-half .even-half .result) (at-even-half .even-half .ensures) .sum in
-    let room = start .pre .1 .0 .room in
-    record { fits = omega arith }
+    record { fits = u-fits (cut-of (at-even-half .before .before .pre)) (at-even-half .even-half .ensures) .in-a }
 
 write-u-add-to-b : (t : ℕ) → write-u-lts.Need-add-to-b (write-u-calls t) (write-u-at t) write-u.Post
 write-u-add-to-b t c =
     let at-even-half = c .before in
-    let start = at-even-half .before .before in
-    let sum = u-sum (cut-of (start .pre)) (at-even-half .even-half .result) (at-even-half .even-half .ensures) .sum in
-    let room = start .pre .1 .0 .room in
-    record { fits = omega arith }
+    record { fits = u-fits (cut-of (at-even-half .before .before .pre)) (at-even-half .even-half .ensures) .to-b }
 
 write-u-sub-to-c : (t : ℕ) → write-u-lts.Need-sub-to-c (write-u-calls t) (write-u-at t) write-u.Post
 write-u-sub-to-c t c =
     let at-even-half = c .before .before in
-    let start = at-even-half .before .before in
-    let less = u-sum (cut-of (start .pre)) (at-even-half .even-half .result) (at-even-half .even-half .ensures) .half-less in
-    omega arith
+    u-fits (cut-of (at-even-half .before .before .pre)) (at-even-half .even-half .ensures) .half
 
 write-u-mul-to-c : (t : ℕ) → write-u-lts.Need-mul-to-c (write-u-calls t) (write-u-at t) write-u.Post
 write-u-mul-to-c t c =
     let at-even-half = c .before .before .before in
-    let start = at-even-half .before .before in
-    let sum = u-sum (cut-of (start .pre)) (at-even-half .even-half .result) (at-even-half .even-half .ensures) .sum in
-    let room = start .pre .1 .0 .room in
-    record { fits = omega arith }
+    record { fits = u-fits (cut-of (at-even-half .before .before .pre)) (at-even-half .even-half .ensures) .in-b }
 
 write-u-add-to-c : (t : ℕ) → write-u-lts.Need-add-to-c (write-u-calls t) (write-u-at t) write-u.Post
 write-u-add-to-c t c =
     let at-even-half = c .before .before .before in
-    let start = at-even-half .before .before in
-    let sum = u-sum (cut-of (start .pre)) (at-even-half .even-half .result) (at-even-half .even-half .ensures) .sum in
-    let room = start .pre .1 .0 .room in
-    record { fits = omega arith }
+    record { fits = u-fits (cut-of (at-even-half .before .before .pre)) (at-even-half .even-half .ensures) .to-c }
 
 write-u-in-a-requires : (t : ℕ) → write-u-lts.Need-in-a-requires (write-u-calls t) (write-u-at t) write-u.Post
 write-u-in-a-requires t c κs = c .before .before .before .before .before .before .pre .1 .0 .b-limit
@@ -520,10 +516,7 @@ write-u-in-b-requires t c κs =
 
 write-u-write-pane-requires-2 : (t : ℕ) → write-u-lts.Need-write-pane-requires-2 (write-u-calls t) (write-u-at t) write-u.Post
 write-u-write-pane-requires-2 t c κs =
-    let at-write-pane = c .before .before .before .before in
-    let at-in-a = at-write-pane .before in
-    let at-even-half = at-in-a .before .before .before .before .before in
-    let start = at-even-half .before .before in
+    let (at-write-pane, at-in-a, at-even-half, start) = u-way c in
     let cut = cut-of (start .pre) in
     let first = at-write-pane .write-pane in
     let half = at-even-half .even-half .ensures in
@@ -544,10 +537,7 @@ write-u-write-pane-requires-3 : (t : ℕ) → write-u-lts.Need-write-pane-requir
 write-u-write-pane-requires-3 t c κs =
     let at-write-pane2 = c .before .before .before .before in
     let at-in-b = at-write-pane2 .before in
-    let at-write-pane = at-in-b .before .before .before .before in
-    let at-in-a = at-write-pane .before in
-    let at-even-half = at-in-a .before .before .before .before .before in
-    let start = at-even-half .before .before in
+    let (at-write-pane, at-in-a, at-even-half, start) = u-way at-in-b in
     let cut = cut-of (start .pre) in
     let first = at-write-pane .write-pane in
     let second = at-write-pane2 .write-pane2 in
@@ -572,10 +562,7 @@ write-u-returns t c =
     let at-in-c = at-write-pane3 .before in
     let at-write-pane2 = at-in-c .before .before .before .before in
     let at-in-b = at-write-pane2 .before in
-    let at-write-pane = at-in-b .before .before .before .before in
-    let at-in-a = at-write-pane .before in
-    let at-even-half = at-in-a .before .before .before .before .before in
-    let start = at-even-half .before .before in
+    let (at-write-pane, at-in-a, at-even-half, start) = u-way at-in-b in
     c-told (cut-of (start .pre)) (at-even-half .even-half .ensures) (at-in-a .in-a .ensures) (at-in-b .in-b .ensures)
     (at-in-c .in-c .ensures) (start .args .runs .now) (at-write-pane .write-pane .ensures) (at-write-pane2 .write-pane2 .ensures)
     (at-write-pane3 .write-pane3 .ensures)
