@@ -53,10 +53,13 @@ fn lowers(instruction: &str) -> usize {
     }
 }
 
+// Every function with its frame and its calls. Where the linker has still to put in what is called, the line below names it, and the line of the call names
+// the caller, or a place in it.
 fn read(code: &str) -> BTreeMap<String, Function> {
     let mut functions: BTreeMap<String, Function> = BTreeMap::new();
     let mut name = String::new();
-    for line in code.lines() {
+    let lines: Vec<&str> = code.lines().collect();
+    for (i, &line) in lines.iter().enumerate() {
         if let Some(head) = line.strip_suffix(">:") {
             name = head.split_once('<').unwrap().1.to_string();
             functions.insert(name.clone(), Function { frame: if cfg!(target_arch = "x86_64") { 8 } else { 0 }, ..Function::default() });
@@ -69,6 +72,9 @@ fn read(code: &str) -> BTreeMap<String, Function> {
             let target = target.strip_prefix(".text.").unwrap_or(target);
             function.calls.insert(target.rsplit_once(['-', '+']).map_or(target, |(before, _)| before).to_string());
         } else if text.starts_with("call ") || text.starts_with("bl\t") || text.starts_with("bl ") {
+            if lines.get(i + 1).is_some_and(|below| below.contains(": R_")) {
+                continue;
+            }
             function.calls.insert(text.split_once('<').map_or("", |(_, t)| t.trim_end_matches('>')).to_string());
         } else {
             function.frame += lowers(text);

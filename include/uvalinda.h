@@ -13,7 +13,7 @@
  * refuse.
  *
  * Who owns what: every pointer is lent for the time of the call. The library keeps nothing, allocates nothing and has no state, so calls from
- * several threads do not disturb each other; a fill or a check of the largest area takes under 9 KB of stack on x86-64, 11 KB on Arm. A pointer
+ * several threads do not disturb each other; a fill or a check of the largest area takes under 9 KB of stack on x86-64 and on Arm. A pointer
  * is followed by its length, in places (in bytes, for a line), and may be null where that length is 0. What the caller has to see to, since C
  * cannot: a pointer has as many places as its length says, and what is written to overlaps nothing else that the same call was lent.
  *
