@@ -8,12 +8,14 @@ use terms::Refusal;
 ghost use mathlib.Core.List.{[], _∷_};
 ghost use mathlib.Core.Path.{_≡_};
 ghost use Prim.Native.Nat.{_*_};
-ghost use Rattle.words.specs.Words.{begins};
-ghost use Rattle.lines.specs.Lines.{AREA};
-ghost use Rattle.curve.specs.Lookups.{number-to-square, square-to-number, finish-square};
-ghost use Rattle.clerk.specs.Clerk.{Area-set, Cell, Number, said, from-call, reply-to, clerk-under, clerk-after, after, reply};
+ghost use lib.IntN.{pos};
+ghost use Rattle.terms.specs.Terms.{at-post, signed};
+ghost use Rattle.lines.specs.Lines.{begins-setting};
+ghost use Rattle.curve.specs.Grid.{number-to-square-at, square-to-number-at, finish-square-at};
+ghost use Rattle.clerk.specs.Clerk.{Area-set, Cell, Number, said, from-call, origin-reply, reply-to};
+ghost use Rattle.clerk.specs.Clerk.{clerk-under, with-origin, clerk-after, after, reply};
 
-// The area in force, if there is one.
+// The area in force with its origin, if there is one.
 pub enum Clerk {
     NoArea,
     InForce(Area),
@@ -25,12 +27,16 @@ pub enum Reply {
         w: u32,
         h: u32,
         squares: u32,
-        x: u32,
-        y: u32,
+        x: i32,
+        y: i32,
+    },
+    OriginSet {
+        ox: i32,
+        oy: i32,
     },
     Cell {
-        x: u32,
-        y: u32,
+        x: i32,
+        y: i32,
         blocks: u32,
     },
     Number {
@@ -48,9 +54,9 @@ pub struct Handled {
 
 // The reply to an AREA line.
 fn area_reply(w: u32, h: u32) -> Reply
-    ensures { λ r. ⌜ said r ≡ from-call Area-set (w ∷ h ∷ (w * h) ∷ []) (finish-square w h) ⌝ }
+    ensures { λ r. ⌜ said r ≡ from-call Area-set (pos w ∷ pos h ∷ pos (w * h) ∷ []) (finish-square-at (at-post w h)) ⌝ }
 {
-    match curve::finish_square(Area { w: w, h: h }) {
+    match curve::finish_square(terms::at_post(w, h)) {
         FinishAnswer::Found { x, y } => Reply::AreaSet {
             w: w,
             h: h,
@@ -62,9 +68,19 @@ fn area_reply(w: u32, h: u32) -> Reply
     }
 }
 
+// The reply to an ORIGIN line under an area.
+fn origin_reply(ox: i32, oy: i32) -> Reply
+    ensures { λ r. ⌜ said r ≡ origin-reply ox oy ⌝ }
+{
+    if terms::accepts_origin(ox, oy) {
+        return Reply::OriginSet { ox: ox, oy: oy };
+    }
+    Reply::Refused(Refusal::OriginLimit)
+}
+
 // The reply to an N line under an area.
 fn cell_reply(area: Area, i: u32) -> Reply
-    ensures { λ r. ⌜ said r ≡ from-call Cell [] (number-to-square (area .w) (area .h) i) ⌝ }
+    ensures { λ r. ⌜ said r ≡ from-call Cell [] (number-to-square-at area i) ⌝ }
 {
     match curve::number_to_square(area, i) {
         SquareAnswer::Found { x, y, blocks } => Reply::Cell {
@@ -77,8 +93,8 @@ fn cell_reply(area: Area, i: u32) -> Reply
 }
 
 // The reply to an S line under an area.
-fn number_reply(area: Area, x: u32, y: u32) -> Reply
-    ensures { λ r. ⌜ said r ≡ from-call Number [] (square-to-number (area .w) (area .h) x y) ⌝ }
+fn number_reply(area: Area, x: i32, y: i32) -> Reply
+    ensures { λ r. ⌜ said r ≡ from-call Number [] (signed (square-to-number-at area x y)) ⌝ }
 {
     match curve::square_to_number(area, x, y) {
         NumberAnswer::Found { number, blocks } => Reply::Number {
@@ -95,6 +111,10 @@ fn reply_to(clerk: Clerk, asked: Request) -> Reply
 {
     match asked {
         Request::SetArea { w, h } => area_reply(w, h),
+        Request::SetOrigin { ox, oy } => match clerk {
+            Clerk::NoArea => Reply::Refused(Refusal::NoArea),
+            Clerk::InForce(_) => origin_reply(ox, oy),
+        },
         Request::AskNumber { i } => match clerk {
             Clerk::NoArea => Reply::Refused(Refusal::NoArea),
             Clerk::InForce(area) => cell_reply(area, i),
@@ -107,24 +127,45 @@ fn reply_to(clerk: Clerk, asked: Request) -> Reply
     }
 }
 
-// The clerk with an area in force, or with none where the area is not accepted.
+// The clerk with an area in force, or with none where the area or its origin is not accepted.
 pub fn clerk_under(area: Area) -> Clerk
     ensures { λ r. ⌜ r ≡ clerk-under area ⌝ }
 {
-    if terms::accepts(area) {
+    if terms::accepts_grid(area) {
         return Clerk::InForce(area);
     }
     Clerk::NoArea
 }
 
+// The clerk after an ORIGIN line, which sets the origin or leaves no area.
+fn with_origin(clerk: Clerk, ox: i32, oy: i32) -> Clerk
+    ensures { λ r. ⌜ r ≡ with-origin clerk ox oy ⌝ }
+{
+    match clerk {
+        Clerk::NoArea => Clerk::NoArea,
+        Clerk::InForce(area) => {
+            if !terms::accepts_origin(ox, oy) {
+                return Clerk::NoArea;
+            }
+            Clerk::InForce(Area {
+                w: area.w,
+                h: area.h,
+                ox: ox,
+                oy: oy,
+            })
+        }
+    }
+}
+
 // The clerk after a line.
 fn clerk_after(clerk: Clerk, line: &[u8], asked: Request) -> Clerk
-    ensures { λ r. ⌜ r ≡ clerk-after clerk (begins (now (line .entry)) AREA) asked ⌝ }
+    ensures { λ r. ⌜ r ≡ clerk-after clerk (begins-setting (now (line .entry))) asked ⌝ }
 {
     match asked {
-        Request::SetArea { w, h } => clerk_under(Area { w: w, h: h }),
+        Request::SetArea { w, h } => clerk_under(terms::at_post(w, h)),
+        Request::SetOrigin { ox, oy } => with_origin(clerk, ox, oy),
         Request::Refused(_) => {
-            if lines::begins_area(line) {
+            if lines::begins_setting(line) {
                 return Clerk::NoArea;
             }
             clerk

@@ -7,7 +7,7 @@ use native.Mathlib.Omega.{arith}
 use borrow.Author.Tests.{lt-ltb, le-ltb}
 use Rattle.terms.specs.declared.Refusal.{Refusal}
 use Rattle.terms.specs.declared.Refusal.the-variants.{SquareOutside, NumberOutside}
-use Rattle.terms.specs.Terms.{accepted, area-refusal, answered, refused}
+use Rattle.terms.specs.Terms.{accepted, area-refusal, refused}
 use Rattle.terms.proofs.Laws.{Limits, limits, squares-limit}
 use Rattle.division.specs.Division.{Square, square, whole, square-of, number-of, blocks-holding}
 use Rattle.division.specs.Division.Inside.{x-y, Inside}
@@ -16,7 +16,7 @@ use Rattle.descents.specs.declared.Held.{Held}
 use Rattle.descents.specs.Descents.{held, Descends}
 use Rattle.searches.specs.declared.Numbered.{Numbered}
 use Rattle.searches.specs.Searches.{numbered, spot-at, Searches}
-use Rattle.curve.specs.Lookups.{unless-deep, number-to-square, square-to-number, finish-square}
+use Rattle.curve.specs.Lookups.{unless-deep, number-to-square, square-to-number}
 
 module _ (w h : ℕ) (yes : accepted w h ≡ true) where
   lengths : Limits w h
@@ -82,7 +82,3 @@ module _ (w h : ℕ) (not-accepted : accepted w h ≡ false) (r : Refusal) (is :
   pub number-limit : (x y : ℕ) → refused r 2 ≡ square-to-number w h x y
   unfolding square-to-number
   number-limit x y = rw not-accepted (ap (λ r. refused r 2) is)
-
-  pub finish-limit : refused r 2 ≡ finish-square w h
-  unfolding finish-square
-  finish-limit = rw not-accepted (ap (λ r. refused r 2) is)

@@ -1,17 +1,15 @@
--- What the lookups' promises come to: each accepted number and square is answered, each lookup undoes the other with the same count, the count meets demand 3,
--- the finish square is the last number's, an answer that meets a promise is the only one, and the wrong programs that a promise turns away.
-use mathlib.Core.Bool.{Bool, true, false, cond}
+-- What the lookups say of squares counted from the area's corner: each accepted number and square is answered, each lookup undoes the other with the same
+-- count, the count meets demand 3, and the finish square is the last number's. `Calls` has what that comes to on the site grid.
+use mathlib.Core.Bool.{Bool, true, false}
 use mathlib.Core.List.{List, [], _∷_}
 use mathlib.Core.Path.{_≡_, refl, sym, ap, ap₂, subst, subst⁻¹, _∙_}
 use Prim.Native.Nat.{ℕ, _-_, _*_, _^_, _≤_, _<_}
 use native.Mathlib.Nat.{mul-le-mul}
 use native.Mathlib.Omega.{arith}
 use borrow.Author.Tests.{lt-ltb, le-leb, ltb-true, ltb-false}
-use lib.Dec.{ltb, eqb, lit<, lit≤}
-use Rattle.terms.specs.declared.Refusal.{Refusal}
-use Rattle.terms.specs.Terms.{accepted, area-refusal, Figures, answered, refused}
-use Rattle.terms.proofs.Laws.{limits, named, named-back, refusal-some, refusal-not-0, figure}
-use Rattle.terms.proofs.Ones.{by-figures}
+use lib.Dec.{ltb, lit≤}
+use Rattle.terms.specs.Terms.{accepted, area-refusal, answered, refused}
+use Rattle.terms.proofs.Laws.{limits, refusal-some, figure}
 use Rattle.division.specs.declared.Choice.the-variants.{UCut}
 use Rattle.division.specs.Division.{Square, square, whole, choice, parts-of, square-of, number-of, blocks-holding}
 use Rattle.division.proofs.Rules.{parts-are}
@@ -19,12 +17,9 @@ use Rattle.division.proofs.Cases.{in-three}
 use Rattle.division.proofs.Once.{square-held, number-below, square-of-number, number-of-square}
 use Rattle.division.proofs.Blocks.{whole-inside, at-most-54, demand-3, cut-holding}
 use Rattle.division.proofs.Local.{whole-holds, whole-within}
-use Rattle.curve.specs.declared.SquareAnswer as SquareAnswers
-use Rattle.curve.specs.declared.NumberAnswer as NumberAnswers
-use Rattle.curve.specs.declared.FinishAnswer as FinishAnswers
 use Rattle.curve.proofs.Answers.{number-outside, square-limit, x-outside, y-outside, number-limit}
 use Rattle.curve.proofs.Finish.{finish-is}
-use Rattle.curve.specs.Lookups.{square-figures, number-figures, finish-figures, number-to-square, square-to-number, finish-square}
+use Rattle.curve.specs.Lookups.{number-to-square, square-to-number, finish-square}
 
 -- Every number of an accepted area has its square, and every square its number; no lookup ever meets refusal 9.
 module _ (w h : ℕ) (yes : accepted w h ≡ true) where
@@ -148,53 +143,8 @@ finish-last w h ok =
       finish = finish-is w h ok .last;
     }
 
--- Two answers that meet a promise are one: an answer can be told from its figures.
-square-from : Figures → SquareAnswers.SquareAnswer
-square-from f =
-    cond (eqb (f .refusal) 0) (SquareAnswers.the-variants.Found (figure 0 f) (figure 1 f) (figure 2 f))
-    (SquareAnswers.the-variants.Refused (named (f .refusal)))
-
-square-told : (r : SquareAnswers.SquareAnswer) → square-from (square-figures r) ≡ r
-unfolding square-from
-square-told (SquareAnswers.the-variants.Found x y k) = refl
-square-told (SquareAnswers.the-variants.Refused r) = rw (refusal-not-0 r) (ap SquareAnswers.the-variants.Refused (named-back r))
-
-pub square-one : (r s : SquareAnswers.SquareAnswer) {f : Figures} → square-figures r ≡ f → square-figures s ≡ f → r ≡ s
-square-one = by-figures square-figures square-from square-told
-
-number-from : Figures → NumberAnswers.NumberAnswer
-number-from f = cond (eqb (f .refusal) 0) (NumberAnswers.the-variants.Found (figure 0 f) (figure 1 f)) (NumberAnswers.the-variants.Refused (named (f .refusal)))
-
-number-told : (r : NumberAnswers.NumberAnswer) → number-from (number-figures r) ≡ r
-unfolding number-from
-number-told (NumberAnswers.the-variants.Found n k) = refl
-number-told (NumberAnswers.the-variants.Refused r) = rw (refusal-not-0 r) (ap NumberAnswers.the-variants.Refused (named-back r))
-
-pub number-one : (r s : NumberAnswers.NumberAnswer) {f : Figures} → number-figures r ≡ f → number-figures s ≡ f → r ≡ s
-number-one = by-figures number-figures number-from number-told
-
-finish-from : Figures → FinishAnswers.FinishAnswer
-finish-from f = cond (eqb (f .refusal) 0) (FinishAnswers.the-variants.Found (figure 0 f) (figure 1 f)) (FinishAnswers.the-variants.Refused (named (f .refusal)))
-
-finish-told : (r : FinishAnswers.FinishAnswer) → finish-from (finish-figures r) ≡ r
-unfolding finish-from
-finish-told (FinishAnswers.the-variants.Found x y) = refl
-finish-told (FinishAnswers.the-variants.Refused r) = rw (refusal-not-0 r) (ap FinishAnswers.the-variants.Refused (named-back r))
-
-pub finish-one : (r s : FinishAnswers.FinishAnswer) {f : Figures} → finish-figures r ≡ f → finish-figures s ≡ f → r ≡ s
-finish-one = by-figures finish-figures finish-from finish-told
-
--- The wrong programs that the promises turn away, each where it goes wrong first.
-two-squares : accepted 2 1 ≡ true
-unfolding accepted
-two-squares = refl
-
-four-squares : accepted 2 2 ≡ true
-unfolding accepted
-four-squares = refl
-
 -- each square of a 2 by 2 area is held by a part too
-not-alone : (x y n : ℕ) → square-to-number 2 2 x y ≡ answered (n ∷ 1 ∷ []) → ⊥
+pub not-alone : (x y n : ℕ) → square-to-number 2 2 x y ≡ answered (n ∷ 1 ∷ []) → ⊥
 unfolding whole choice parts-of
 not-alone x y n e =
     let is = square-count-is 2 2 x y n 1 e in
@@ -203,47 +153,3 @@ not-alone x y n e =
     let held = whole-holds 2 2 (square x y) (record { run = was .1; side = was .2 }) in
     let more = cut-holding 2 2 (whole 2 2) inside (in-three (lit≤ tt) (lit≤ tt) (parts-are (whole 2 2) UCut refl)) (square x y) held in
     omega arith
-
--- one that refuses everything
-module _ (f : ℕ → ℕ → ℕ → SquareAnswers.SquareAnswer) (promise : (w h n : ℕ) → square-figures (f w h n) ≡ number-to-square w h n) where
-  pub refuses-everything : ((w h n : ℕ) → (r : Refusal) × (f w h n ≡ SquareAnswers.the-variants.Refused r)) → ⊥
-  refuses-everything all =
-      let given = all 2 1 0 in
-      refusal-some (given .0)
-      (ap (λ g. g .refusal) (ap square-figures (sym (given .1)) ∙ promise 2 1 0 ∙ number-answered 2 1 two-squares 0 (lit< tt)))
-
-  -- one that gives a constant square, whatever the count
-  pub constant-square : (x y : ℕ) → ((w h n : ℕ) → accepted w h ≡ true → n < w * h → (k : ℕ) × (f w h n ≡ SquareAnswers.the-variants.Found x y k)) → ⊥
-  constant-square x y all =
-      let a = all 2 1 0 two-squares (lit< tt) in
-      let b = all 2 1 1 two-squares (lit< tt) in
-      let first = number-back 2 1 0 x y (a .0) (sym (promise 2 1 0) ∙ ap square-figures (a .1)) in
-      let second = number-back 2 1 1 x y (b .0) (sym (promise 2 1 1) ∙ ap square-figures (b .1)) in
-      omega (arith, ap (figure 0) (sym first ∙ second))
-
-  -- one whose count is made up: 1 for every square is within demand 3's bound, and is not the division's own count
-  pub made-up-count : ((w h n : ℕ) → accepted w h ≡ true → n < w * h → (x : ℕ) × (y : ℕ) × (f w h n ≡ SquareAnswers.the-variants.Found x y 1)) → ⊥
-  made-up-count all =
-      let a = all 2 2 0 four-squares (lit< tt) in
-      not-alone (a .0) (a .1) 0 (number-back 2 2 0 (a .0) (a .1) 1 (sym (promise 2 2 0) ∙ ap square-figures (a .2)))
-
-module _ (g : ℕ → ℕ → ℕ → ℕ → NumberAnswers.NumberAnswer) (promise : (w h x y : ℕ) → number-figures (g w h x y) ≡ square-to-number w h x y) where
-  -- one that refuses every square, one that gives a constant number, and one whose count is made up
-  pub refuses-every-square : ((w h x y : ℕ) → (r : Refusal) × (g w h x y ≡ NumberAnswers.the-variants.Refused r)) → ⊥
-  refuses-every-square all =
-      let given = all 2 1 0 0 in
-      refusal-some (given .0)
-      (ap (λ f. f .refusal) (ap number-figures (sym (given .1)) ∙ promise 2 1 0 0 ∙ square-answered 2 1 two-squares 0 0 (lit< tt) (lit< tt)))
-
-  pub constant-number : (n : ℕ) → ((w h x y : ℕ) → accepted w h ≡ true → x < w → y < h → (k : ℕ) × (g w h x y ≡ NumberAnswers.the-variants.Found n k)) → ⊥
-  constant-number n all =
-      let a = all 2 1 0 0 two-squares (lit< tt) (lit< tt) in
-      let b = all 2 1 1 0 two-squares (lit< tt) (lit< tt) in
-      let first = square-back 2 1 0 0 n (a .0) (sym (promise 2 1 0 0) ∙ ap number-figures (a .1)) in
-      let second = square-back 2 1 1 0 n (b .0) (sym (promise 2 1 1 0) ∙ ap number-figures (b .1)) in
-      omega (arith, ap (figure 0) (sym first ∙ second))
-
-  pub made-up-square-count : ((w h x y : ℕ) → accepted w h ≡ true → x < w → y < h → (n : ℕ) × (g w h x y ≡ NumberAnswers.the-variants.Found n 1)) → ⊥
-  made-up-square-count all =
-      let a = all 2 2 0 0 four-squares (lit< tt) (lit< tt) in
-      not-alone 0 0 (a .0) (sym (promise 2 2 0 0) ∙ ap number-figures (a .1))

@@ -1,5 +1,5 @@
 -- What a lookup says, for every area, number and square: document 01, "What a lookup and a table say" and "Refusal numbers", as figures on paper. The finish
--- square is that of document 02, order 1.
+-- square is that of document 02, order 1. Squares are counted from the area's own corner; `Grid` moves them by the area's origin.
 use mathlib.Core.Bool.{_&&_, cond}
 use mathlib.Core.List.{List, [], _∷_}
 use Prim.Native.Nat.{ℕ, _-_, _*_}
@@ -7,9 +7,7 @@ use lib.Dec.{leb, ltb}
 use Rattle.terms.specs.declared.Refusal.the-variants.{SquareOutside, NumberOutside, TooDeep}
 use Rattle.terms.specs.Terms.{most-blocks, Figures, answered, refused, on-area}
 use Rattle.division.specs.Division.{square, whole, square-of, number-of, blocks-holding}
-use Rattle.curve.specs.declared.SquareAnswer as SquareAnswers
 use Rattle.curve.specs.declared.NumberAnswer as NumberAnswers
-use Rattle.curve.specs.declared.FinishAnswer as FinishAnswers
 
 -- "9: a descent would open a 65th block, that is, over 64 blocks of the division hold one and the same square that the call needs". The figures
 -- of an answer whose square n blocks hold, else that refusal with as many values 0.
@@ -37,15 +35,7 @@ finish-square w h =
     let s = square-of (whole w h) (w * h - 1) in
     on-area w h 2 (answered (s .x ∷ s .y ∷ []))
 
--- The figures of each answer: "the number, all else 0" where it is refused.
-abbrev pub square-figures : SquareAnswers.SquareAnswer → Figures
-square-figures (SquareAnswers.the-variants.Found x y blocks) = answered (x ∷ y ∷ blocks ∷ [])
-square-figures (SquareAnswers.the-variants.Refused r) = refused r 3
-
+-- The figures of an answer: "the number, all else 0" where it is refused.
 abbrev pub number-figures : NumberAnswers.NumberAnswer → Figures
 number-figures (NumberAnswers.the-variants.Found number blocks) = answered (number ∷ blocks ∷ [])
 number-figures (NumberAnswers.the-variants.Refused r) = refused r 2
-
-abbrev pub finish-figures : FinishAnswers.FinishAnswer → Figures
-finish-figures (FinishAnswers.the-variants.Found x y) = answered (x ∷ y ∷ [])
-finish-figures (FinishAnswers.the-variants.Refused r) = refused r 2

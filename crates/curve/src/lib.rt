@@ -1,18 +1,22 @@
-// Single lookups: from a number to its square, from a square to its number, and the finish square.
+// Single lookups: from a number to its square, from a square to its number, and the finish square. Squares are those of the site grid: signed, and counted from
+// the datum post.
 use descents::Held;
 use searches::Numbered;
 use terms::Area;
 use terms::Refusal;
 ghost use mathlib.Core.List.{[], _∷_};
 ghost use mathlib.Core.Path.{_≡_};
-ghost use Rattle.curve.specs.Lookups.{unless-deep, square-figures, number-figures, finish-figures, number-to-square, square-to-number, finish-square};
+ghost use Rattle.terms.specs.Terms.{answered};
+ghost use Rattle.curve.specs.Lookups.{unless-deep, number-figures};
+ghost use Rattle.curve.specs.Grid.{square-figures, finish-figures, from-origin, number-to-square-at, square-to-number-at, finish-square-at};
+ghost use Rattle.curve.specs.Placing.{Places};
 
 // The most blocks of the division that a lookup opens.
 const MOST_BLOCKS: u32 = 64;
 
 // What a lookup of a number answers.
 pub enum SquareAnswer {
-    Found { x: u32, y: u32, blocks: u32 },
+    Found { x: i32, y: i32, blocks: u32 },
     Refused(Refusal),
 }
 
@@ -24,20 +28,22 @@ pub enum NumberAnswer {
 
 // What the finish square's call answers.
 pub enum FinishAnswer {
-    Found { x: u32, y: u32 },
+    Found { x: i32, y: i32 },
     Refused(Refusal),
 }
 
-// What was found, unless too many blocks hold the square.
-fn square_unless_deep(held: Held) -> SquareAnswer
-    ensures { λ r. ⌜ square-figures r ≡ unless-deep (held .blocks) (held .x ∷ held .y ∷ held .blocks ∷ []) 3 ⌝ }
+// What was found, moved by the origin, unless too many blocks hold the square.
+fn square_unless_deep(area: Area, held: Held) -> SquareAnswer
+    requires { ⌜ Places area (held .x) (held .y) ⌝ }
+    ensures { λ r.
+        ⌜ square-figures r ≡ from-origin (area .ox) (area .oy) (unless-deep (held .blocks) (held .x ∷ held .y ∷ held .blocks ∷ []) 3) ⌝ }
 {
     if MOST_BLOCKS < held.blocks {
         return SquareAnswer::Refused(Refusal::TooDeep);
     }
     SquareAnswer::Found {
-        x: held.x,
-        y: held.y,
+        x: terms::shifted(area.ox, held.x),
+        y: terms::shifted(area.oy, held.y),
         blocks: held.blocks,
     }
 }
@@ -54,56 +60,66 @@ fn number_unless_deep(found: Numbered) -> NumberAnswer
     }
 }
 
+// A finish square, moved by the origin.
+fn finish_at(area: Area, x: u32, y: u32) -> FinishAnswer
+    requires { ⌜ Places area x y ⌝ }
+    ensures { λ r. ⌜ finish-figures r ≡ from-origin (area .ox) (area .oy) (answered (x ∷ y ∷ [])) ⌝ }
+{
+    FinishAnswer::Found {
+        x: terms::shifted(area.ox, x),
+        y: terms::shifted(area.oy, y),
+    }
+}
+
 // The square of a number of an area, and how many blocks of the division hold it.
 pub fn number_to_square(area: Area, number: u32) -> SquareAnswer
-    ensures { λ r. ⌜ square-figures r ≡ number-to-square (area .w) (area .h) number ⌝ }
+    ensures { λ r. ⌜ square-figures r ≡ number-to-square-at area number ⌝ }
 {
     let w = area.w;
     let h = area.h;
-    if !terms::accepts(area) {
-        return SquareAnswer::Refused(terms::area_refusal(area));
+    if !terms::accepts_grid(area) {
+        return SquareAnswer::Refused(terms::grid_refusal(area));
     }
     if w * h <= number {
         return SquareAnswer::Refused(Refusal::NumberOutside);
     }
-    square_unless_deep(descents::square_at(w, h, number))
+    square_unless_deep(area, descents::square_at(w, h, number))
 }
 
 // The number of a square of an area, and how many blocks of the division hold it.
-pub fn square_to_number(area: Area, x: u32, y: u32) -> NumberAnswer
-    ensures { λ r. ⌜ number-figures r ≡ square-to-number (area .w) (area .h) x y ⌝ }
+pub fn square_to_number(area: Area, x: i32, y: i32) -> NumberAnswer
+    ensures { λ r. ⌜ number-figures r ≡ square-to-number-at area x y ⌝ }
 {
     let w = area.w;
     let h = area.h;
-    if !terms::accepts(area) {
-        return NumberAnswer::Refused(terms::area_refusal(area));
+    if !terms::accepts_grid(area) {
+        return NumberAnswer::Refused(terms::grid_refusal(area));
     }
-    if w <= x {
+    let u = terms::distance(x, area.ox);
+    let v = terms::distance(y, area.oy);
+    if w <= u {
         return NumberAnswer::Refused(Refusal::SquareOutside);
     }
-    if h <= y {
+    if h <= v {
         return NumberAnswer::Refused(Refusal::SquareOutside);
     }
-    number_unless_deep(searches::number_at(w, h, x, y))
+    number_unless_deep(searches::number_at(w, h, u, v))
 }
 
 // The finish square, which is the square of the last number. The area's lengths tell it, so that no block has to be opened.
 pub fn finish_square(area: Area) -> FinishAnswer
-    ensures { λ r. ⌜ finish-figures r ≡ finish-square (area .w) (area .h) ⌝ }
+    ensures { λ r. ⌜ finish-figures r ≡ finish-square-at area ⌝ }
 {
     let w = area.w;
     let h = area.h;
-    if !terms::accepts(area) {
-        return FinishAnswer::Refused(terms::area_refusal(area));
+    if !terms::accepts_grid(area) {
+        return FinishAnswer::Refused(terms::grid_refusal(area));
     }
     if w == 1 {
-        return FinishAnswer::Found { x: 0, y: h - 1 };
+        return finish_at(area, 0, h - 1);
     }
     if h == 2 {
-        return FinishAnswer::Found {
-            x: w - 1 - w % 2,
-            y: 0,
-        };
+        return finish_at(area, w - 1 - w % 2, 0);
     }
-    FinishAnswer::Found { x: w - 1, y: 0 }
+    finish_at(area, w - 1, 0)
 }

@@ -7,16 +7,19 @@ use Prim.Native.Nat.{ℕ, _+_, _*_, _≤_}
 use native.Mathlib.Omega.{arith}
 use borrow.Author.Tests.{le-leb}
 use lib.Dec.{leb}
+use lib.IntN.{ℤ, pos, _+ℤ_}
 use lib.ListN.{length, drop, getD, replicate, length-replicate, getD-replicate, drop-of-length-le}
-use Rattle.terms.specs.Terms.{Figures, answered}
+use Rattle.terms.specs.Terms.{FiguresOf, answered, grid-accepted}
 use Rattle.terms.proofs.Laws.{limits, figure}
 use Rattle.curve.specs.Lookups.{number-to-square, square-to-number}
+use Rattle.curve.specs.Grid.{number-to-square-at, square-to-number-at}
+use Rattle.curve.proofs.Calls.{found, old-square, number-moved}
 use Rattle.curve.proofs.Promises.{number-answered, number-asked, square-back}
 use Rattle.tables.specs.Tables.{by-number, by-square, due-by, unless-refused, fill}
 use Rattle.tables.proofs.Promises.{number-holds, kinds-inverse, that-length-filled, filled-so, fills-nothing}
 use Rattle.clerk.specs.declared.Clerk.{Clerk}
 use Rattle.clerk.specs.Clerk.{Refused, reply}
-use Rattle.exports.specs.Boundary.{returned, written, filled}
+use Rattle.exports.specs.Boundary.{returned, written, filled, area-at}
 use Rattle.exports.specs.Handling.{shown, handled-by}
 
 -- Demand 2: "filled tables hold what the lookups say". Of the lists that are due:
@@ -47,36 +50,49 @@ module _ (w h : ℕ) (t : List ℕ) (size : length t ≡ w * h) where
       let ok = number-asked w h n (x ∷ y ∷ k ∷ []) (square-back w h x y n k e) .0 in
       ap (λ ds. getD ds (y * w + x) 0) (filled-so w h t (by-square w h) (that-length-filled w h t ok size)) ∙ by-square-due w h x y n k e
 
+  -- So of the calls, whose squares are counted from the origin: the table's count from the area's own corner, "with the origin subtracted".
+  pub by-number-holds-at : (ox oy : ℤ) (i : ℕ) (x y : ℤ) (k : ℕ) (e : number-to-square-at (area-at w h ox oy) i ≡ found x y k)
+      → getD (unless-refused (fill w h t) (by-number w h) t) i 0
+      ≡ old-square (area-at w h ox oy) i x y k e .north * w + old-square (area-at w h ox oy) i x y k e .east
+  by-number-holds-at ox oy i x y k e =
+      let was = old-square (area-at w h ox oy) i x y k e in
+      by-number-holds i (was .east) (was .north) k (was .old)
+
+  pub by-square-holds-at : (ox oy : ℤ) → grid-accepted (area-at w h ox oy) ≡ true → (x y n k : ℕ)
+      → square-to-number-at (area-at w h ox oy) (ox +ℤ pos x) (oy +ℤ pos y) ≡ answered (n ∷ k ∷ [])
+      → getD (unless-refused (fill w h t) (by-square w h) t) (y * w + x) 0 ≡ n
+  by-square-holds-at ox oy on x y n k e = by-square-holds x y n k (sym (number-moved (area-at w h ox oy) on x y) ∙ e)
+
 -- "the number, all else 0", of a line: after the area in force stand zeros where the line is refused.
-pub refused-rest-0 : (clerk : Clerk) (line : List ℕ) → reply clerk line .word ≡ Refused → drop 2 (handled-by clerk line .values) ≡ replicate 4 0
+pub refused-rest-0 : (clerk : Clerk) (line : List ℕ) → reply clerk line .word ≡ Refused → drop 4 (handled-by clerk line .values) ≡ replicate 4 (pos 0)
 refused-rest-0 clerk line e = ap (λ word. shown word (reply clerk line .numbers)) e
 
-module _ (n : ℕ) (f : Figures) where
+-- Of any call that writes n values, signed or not: let u and v be two values that differ.
+module _ {A : Type 0} (n : ℕ) (f : FiguresOf A) (u v : A) (differ : u ≡ v → ⊥) where
   -- a slice of n places that holds one value
-  abbrev full : ℕ → List ℕ
-  full v = replicate n v
+  abbrev full : A → List A
+  full value = replicate n value
 
-  has-room : (v : ℕ) → leb n (length (full v)) ≡ true
-  has-room v = let size = length-replicate n v in le-leb n (length (full v)) (omega arith)
+  has-room : (value : A) → leb n (length (full value)) ≡ true
+  has-room value = let size = length-replicate n value in le-leb n (length (full value)) (omega arith)
 
   -- It is wholly written, and what it held leaves no trace.
-  whole-written : (v : ℕ) → written n f (full v) ≡ f .values ++ []
-  whole-written v =
-      let size = length-replicate n v in
-      let none : drop n (full v) ≡ [] = drop-of-length-le (full v) {i = n} (omega arith) in
-      rw (has-room v) (ap (λ t. f .values ++ t) none)
+  whole-written : (value : A) → written n f (full value) ≡ f .values ++ []
+  whole-written value =
+      let size = length-replicate n value in
+      let none : drop n (full value) ≡ [] = drop-of-length-le (full value) {i = n} (omega arith) in
+      rw (has-room value) (ap (λ t. f .values ++ t) none)
 
-  -- Sevens and eights would become the same.
-  pub slice-left-alone : 1 ≤ n → ((s : List ℕ) → s ≡ written n f s) → ⊥
+  -- Slices of either value would become the same.
+  pub slice-left-alone : 1 ≤ n → ((s : List A) → s ≡ written n f s) → ⊥
   slice-left-alone l promise =
-      let same : full 7 ≡ full 8 = promise (full 7) ∙ whole-written 7 ∙ sym (promise (full 8) ∙ whole-written 8) in
-      let other : _≡_ {A = ℕ} 7 8 = sym (getD-replicate n 0 7 0 (omega arith)) ∙ ap (λ s. getD s 0 0) same ∙ getD-replicate n 0 8 0 (omega arith) in
-      omega arith
+      let same : full u ≡ full v = promise (full u) ∙ whole-written u ∙ sym (promise (full v) ∙ whole-written v) in
+      differ (sym (getD-replicate n 0 u u (omega arith)) ∙ ap (λ s. getD s 0 u) same ∙ getD-replicate n 0 v u (omega arith))
 
-  pub always-too-short : f .refusal ≡ 0 → ((s : List ℕ) → 255 ≡ returned n f s) → ⊥
+  pub always-too-short : f .refusal ≡ 0 → ((s : List A) → 255 ≡ returned n f s) → ⊥
   always-too-short answered promise =
-      let told : returned n f (full 0) ≡ f .refusal = rw (has-room 0) refl in
-      let other : 255 ≡ f .refusal = promise (full 0) ∙ told in
+      let told : returned n f (full u) ≡ f .refusal = rw (has-room u) refl in
+      let other : 255 ≡ f .refusal = promise (full u) ∙ told in
       omega arith
 
 -- A fill of either kind that leaves its table as it is, with room for the count.

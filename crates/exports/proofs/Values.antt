@@ -4,58 +4,85 @@ use mathlib.Core.Path.{_≡_, refl, sym, ap, ap₂, _∙_}
 use Prim.Native.Nat.{ℕ, _≤_, _<_}
 use native.Mathlib.Omega.{arith}
 use borrow.Author.Tests.{le-leb, lt-leb}
-use lib.ListN.{length, drop, set, length-drop}
-use lib.Seq.{drop-drop}
+use lib.IntN.{ℤ, pos}
+use lib.ListN.{length, take, drop, set}
+use mir.Syntax.{w32, w64}
+use mir.Val.{Fits, SFits, toZ}
+use mir.Facts.{toZ-pos}
 use Rattle.terms.specs.declared.Area.{Area}
-use Rattle.terms.specs.Terms.{Figures}
+use Rattle.terms.specs.Terms.{FiguresOf, Figures, SignedFigures}
 use Rattle.clerk.specs.declared.Clerk.{Clerk}
 use Rattle.clerk.specs.declared.Reply.{Reply}
 use Rattle.clerk.specs.Clerk.{Said, said, after, reply}
 use Rattle.tables.specs.Tables.{unless-refused, fill}
-use Rattle.exports.specs.Boundary.{returned, written, left, filled}
+use Rattle.terms.proofs.Signs.{held, kept}
+use Rattle.exports.specs.Boundary.{returned, written, left, filled, area-at, window-at}
 use Rattle.exports.specs.Handling.{area-of, handled-figures, handled-by}
 
-pub set-one : (s : List ℕ) (x : ℕ) → 1 ≤ length s → set s 0 x ≡ x ∷ drop 1 s
-set-one [] x l = absurd (omega arith)
-set-one (a ∷ s) x l = refl
+-- a 32-bit number is itself among signed ones of 64
+pub wide-number : {n : ℕ} → Fits w32 n → toZ w64 n ≡ pos n
+wide-number {n} few = let least = few .fits in toZ-pos w64 (let small : n < 9223372036854775808 = omega arith in small)
 
-pub set-two : (s : List ℕ) (x y : ℕ) → 2 ≤ length s → set (set s 0 x) 1 y ≡ x ∷ y ∷ drop 2 s
-set-two [] x y l = absurd (omega arith)
-set-two (a ∷ []) x y l = absurd (omega arith)
-set-two (a ∷ b ∷ s) x y l = refl
+-- an area and a window as a call makes them of its arguments
+pub kept-area : (w h : ℕ) {ox oy : ℤ} → SFits w32 ox → SFits w32 oy → area-at w h (held ox) (held oy) ≡ area-at w h ox oy
+kept-area w h p q = ap₂ (area-at w h) (kept p) (kept q)
 
-pub set-three : (s : List ℕ) (x y z : ℕ) → 3 ≤ length s → set (set (set s 0 x) 1 y) 2 z ≡ x ∷ y ∷ z ∷ drop 3 s
-set-three [] x y z l = absurd (omega arith)
-set-three (a ∷ []) x y z l = absurd (omega arith)
-set-three (a ∷ b ∷ []) x y z l = absurd (omega arith)
-set-three (a ∷ b ∷ c ∷ s) x y z l = refl
+pub kept-window : {x0 y0 x1 y1 : ℤ} → SFits w32 x0 → SFits w32 y0 → SFits w32 x1 → SFits w32 y1
+    → window-at (held x0) (held y0) (held x1) (held y1) ≡ window-at x0 y0 x1 y1
+kept-window {x0} {y0} {x1} {y1} p q r s =
+    ap₂ (λ x0 y0. window-at x0 y0 (held x1) (held y1)) (kept p) (kept q) ∙ ap₂ (window-at x0 y0) (kept r) (kept s)
 
--- three places, and then three more
-pub set-six : (s : List ℕ) (w h k x y z : ℕ) → 6 ≤ length s → set (set (set (set (set (set s 0 w) 1 h) 2 k) 3 x) 4 y) 5 z ≡ w ∷ h ∷ k ∷ x ∷ y ∷ z ∷ drop 6 s
-set-six s w h k x y z l =
-    let rest = length-drop 3 s in
-    let first : set (set (set s 0 w) 1 h) 2 k ≡ w ∷ h ∷ k ∷ drop 3 s = set-three s w h k (omega arith) in
-    let second : set (set (set (drop 3 s) 0 x) 1 y) 2 z ≡ x ∷ y ∷ z ∷ drop 3 (drop 3 s) = set-three (drop 3 s) x y z (omega arith) in
-    ap (λ t. set (set (set t 3 x) 4 y) 5 z) first ∙ ap (λ t. w ∷ h ∷ k ∷ t) (second ∙ ap (λ t. x ∷ y ∷ z ∷ t) (drop-drop 3 3 s))
+module _ {A : Type 0} where
+  pub set-one : (s : List A) (x : A) → 1 ≤ length s → set s 0 x ≡ x ∷ drop 1 s
+  set-one [] x l = absurd (omega arith)
+  set-one (a ∷ s) x l = refl
 
-pub short : (n : ℕ) (f : Figures) (s : List ℕ) → length s < n → (255 ≡ returned n f s) × (s ≡ written n f s)
-short n f s l = rw (lt-leb n (length s) l) (refl, refl)
+  pub set-two : (s : List A) (x y : A) → 2 ≤ length s → set (set s 0 x) 1 y ≡ x ∷ y ∷ drop 2 s
+  set-two [] x y l = absurd (omega arith)
+  set-two (a ∷ []) x y l = absurd (omega arith)
+  set-two (a ∷ b ∷ s) x y l = refl
 
--- The figures of an answer are those of the case that it is.
-pub told : (n : ℕ) {A : Type 0} (figures : A → Figures) (s : List ℕ) {is case : A} → is ≡ case
-    → (r : ℕ) → r ≡ figures case .refusal → (last : List ℕ) → last ≡ figures case .values ++ drop n s
-    → (r ≡ figures is .refusal) × (last ≡ figures is .values ++ drop n s)
-told n figures s e r p last q = (p ∙ ap (λ a. figures a .refusal) (sym e), q ∙ ap (λ a. figures a .values ++ drop n s) (sym e))
+  pub set-three : (s : List A) (x y z : A) → 3 ≤ length s → set (set (set s 0 x) 1 y) 2 z ≡ x ∷ y ∷ z ∷ drop 3 s
+  set-three [] x y z l = absurd (omega arith)
+  set-three (a ∷ []) x y z l = absurd (omega arith)
+  set-three (a ∷ b ∷ []) x y z l = absurd (omega arith)
+  set-three (a ∷ b ∷ c ∷ s) x y z l = refl
 
--- An answer's figures, as a call returns and writes them, are the figures that are due; and those of the case that a lookup's answer is.
-pub answer : (n : ℕ) {f g : Figures} (s : List ℕ) → n ≤ length s → g ≡ f → {r : ℕ} {last : List ℕ} → (r ≡ g .refusal) × (last ≡ g .values ++ drop n s)
-    → (r ≡ returned n f s) × (last ≡ written n f s)
-answer n s l e {r} {last} both = rw (le-leb n (length s) l) (told n (λ f. f) s (sym e) r (both .0) last (both .1))
+  -- four places, and those after four others
+  pub set-four : (s : List A) (w h x y : A) → 4 ≤ length s → set (set (set (set s 0 w) 1 h) 2 x) 3 y ≡ w ∷ h ∷ x ∷ y ∷ drop 4 s
+  set-four (a ∷ b ∷ c ∷ d ∷ s) w h x y l = refl
+  set-four [] w h x y l = absurd (omega arith)
+  set-four (a ∷ []) w h x y l = absurd (omega arith)
+  set-four (a ∷ b ∷ []) w h x y l = absurd (omega arith)
+  set-four (a ∷ b ∷ c ∷ []) w h x y l = absurd (omega arith)
 
-pub found : (n : ℕ) {A : Type 0} (figures : A → Figures) {f : Figures} (s : List ℕ) → n ≤ length s → {is case : A} → is ≡ case → figures is ≡ f
-    → (r : ℕ) → r ≡ figures case .refusal → (last : List ℕ) → last ≡ figures case .values ++ drop n s
-    → (r ≡ returned n f s) × (last ≡ written n f s)
-found n figures s l e due r p last q = answer n s l (ap figures (sym e) ∙ due) (p, q)
+  pub set-last-four : (s : List A) (k x y z : A) → 8 ≤ length s
+      → set (set (set (set s 4 k) 5 x) 6 y) 7 z ≡ take 4 s ++ (k ∷ x ∷ y ∷ z ∷ drop 8 s)
+  set-last-four (a ∷ b ∷ c ∷ d ∷ s) k x y z l =
+      ap (λ t. a ∷ b ∷ c ∷ d ∷ t) (set-four s k x y z (omega arith))
+  set-last-four [] k x y z l = absurd (omega arith)
+  set-last-four (a ∷ []) k x y z l = absurd (omega arith)
+  set-last-four (a ∷ b ∷ []) k x y z l = absurd (omega arith)
+  set-last-four (a ∷ b ∷ c ∷ []) k x y z l = absurd (omega arith)
+
+  pub short : (n : ℕ) (f : FiguresOf A) (s : List A) → length s < n → (255 ≡ returned n f s) × (s ≡ written n f s)
+  short n f s l = rw (lt-leb n (length s) l) (refl, refl)
+
+  -- The figures of an answer are those of the case that it is.
+  pub told : (n : ℕ) {B : Type 0} (figures : B → FiguresOf A) (s : List A) {is case : B} → is ≡ case
+      → (r : ℕ) → r ≡ figures case .refusal → (last : List A) → last ≡ figures case .values ++ drop n s
+      → (r ≡ figures is .refusal) × (last ≡ figures is .values ++ drop n s)
+  told n figures s e r p last q = (p ∙ ap (λ a. figures a .refusal) (sym e), q ∙ ap (λ a. figures a .values ++ drop n s) (sym e))
+
+  -- An answer's figures, as a call returns and writes them, are the figures that are due; and those of the case that a lookup's answer is.
+  pub answer : (n : ℕ) {f g : FiguresOf A} (s : List A) → n ≤ length s → g ≡ f → {r : ℕ} {last : List A}
+      → (r ≡ g .refusal) × (last ≡ g .values ++ drop n s) → (r ≡ returned n f s) × (last ≡ written n f s)
+  answer n s l e {r} {last} both = rw (le-leb n (length s) l) (told n (λ f. f) s (sym e) r (both .0) last (both .1))
+
+  pub found : (n : ℕ) {B : Type 0} (figures : B → FiguresOf A) {f : FiguresOf A} (s : List A) → n ≤ length s → {is case : B} → is ≡ case → figures is ≡ f
+      → (r : ℕ) → r ≡ figures case .refusal → (last : List A) → last ≡ figures case .values ++ drop n s
+      → (r ≡ returned n f s) × (last ≡ written n f s)
+  found n figures s l e due r p last q = answer n s l (ap figures (sym e) ∙ due) (p, q)
 
 -- A call that writes a lent slice and tells one value: the slice for that is too short, and the lent one is kept; or it is not.
 module _ (f : Figures) (after lent slice : List ℕ) where
@@ -81,7 +108,7 @@ module _ (w h : ℕ) (due : ℕ → ℕ → List ℕ) (table slice : List ℕ) w
   fill-told = lent-told (fill w h table) (unless-refused (fill w h table) (due w h) table) table slice
 
 -- What the clerk hands back, as figures, is what is due of a clerk under the caller's area.
-abbrev pub shown-under : Area → Reply → Figures
+abbrev pub shown-under : Area → Reply → SignedFigures
 shown-under area r = handled-figures area (said r)
 
 pub handled-as : {under clerk : Clerk} {area : Area} {s : Said} {from : Clerk} (line : List ℕ) → under ≡ from

@@ -1,8 +1,9 @@
-// The library for programs in other languages: one thin function for each call, numbers in and numbers out.
+// The library for programs in other languages: one thin function for each call, numbers in and numbers out. Calls that ask or answer squares take the area's
+// origin behind its lengths, and squares are signed.
 //
 // A call that answers several values takes a slice for them. It returns the refusal's number, 0 for none, and writes the values to the slice's first
-// places, 0 each where it is refused, but for the area in force that a line leaves. A slice that is too short is left as it is, and 255 is returned,
-// which is no refusal's number.
+// places, 0 each where it is refused, but for the area in force that a line leaves and the number of runs that have no room. A slice that is too short is
+// left as it is, and 255 is returned, which is no refusal's number.
 use clerk::Clerk;
 use clerk::Reply;
 use curve::FinishAnswer;
@@ -14,16 +15,19 @@ use terms::Area;
 use terms::Refusal;
 use windows::RunsAnswer;
 use windows::Window;
-ghost use mathlib.Core.List.{_∷_, _++_};
+ghost use mathlib.Core.List.{[], _∷_, _++_};
 ghost use mathlib.Core.Path.{_≡_};
 ghost use Prim.Native.Nat.{_≤_};
-ghost use lib.ListN.{length, drop};
+ghost use lib.IntN.{pos};
+ghost use lib.ListN.{length, take, drop};
+ghost use Rattle.terms.specs.Terms.{most-blocks};
 ghost use Rattle.clerk.specs.Clerk.{said};
-ghost use Rattle.curve.specs.Lookups.{number-to-square, square-to-number, finish-square};
+ghost use Rattle.curve.specs.Grid.{number-to-square-at, square-to-number-at, finish-square-at};
 ghost use Rattle.tables.specs.Tables.{by-number, by-square, fill, fill-figures, check, check-figures};
-ghost use Rattle.windows.specs.Windows.{runs-for-window, slice-after, runs-figures};
-ghost use Rattle.exports.specs.Boundary.{returned, written, left, filled, window-at};
-ghost use Rattle.exports.specs.Handling.{area-of, handled-figures, handled};
+ghost use Rattle.windows.specs.Windows.{runs-figures};
+ghost use Rattle.windows.specs.Grid.{runs-for-window-at, slice-after-at};
+ghost use Rattle.exports.specs.Boundary.{returned, written, left, filled, area-at, window-at};
+ghost use Rattle.exports.specs.Handling.{area-of, shown, refusal-said, state, handled-figures, handled};
 
 // What a call returns where its slice is too short.
 const SHORT: u32 = 255;
@@ -46,23 +50,48 @@ fn put_three(result: &mut [u32], x: u32, y: u32, z: u32)
     result[2] = z;
 }
 
+// The same for a square, whose x and y have a sign.
+fn put_place(result: &mut [i32], x: i32, y: i32)
+    requires { ⌜ 2 ≤ length (now result) ⌝ }
+    ensures { λ r. ⌜ now (result .exit) ≡ x ∷ y ∷ drop 2 (now (result .entry)) ⌝ }
+{
+    result[0] = x;
+    result[1] = y;
+}
+
+fn put_square(result: &mut [i32], x: i32, y: i32, blocks: u32)
+    requires { ⌜ (3 ≤ length (now result)) × (blocks ≤ most-blocks) ⌝ }
+    ensures { λ r. ⌜ now (result .exit) ≡ x ∷ y ∷ pos blocks ∷ drop 3 (now (result .entry)) ⌝ }
+{
+    result[0] = x;
+    result[1] = y;
+    result[2] = blocks as i32;
+}
+
 // x, y and the count of blocks of a number's square.
 #[no_mangle]
-pub extern "C" fn uvalinda_number_to_square(w: u32, h: u32, number: u32, result: &mut [u32]) -> u32
-    ensures returned { λ r. ⌜ r ≡ returned 3 (number-to-square w h number) (now (result .entry)) ⌝ }
-    ensures values { λ r. ⌜ now (result .exit) ≡ written 3 (number-to-square w h number) (now (result .entry)) ⌝ }
+pub extern "C" fn uvalinda_number_to_square(
+    w: u32,
+    h: u32,
+    ox: i32,
+    oy: i32,
+    number: u32,
+    result: &mut [i32],
+) -> u32
+    ensures returned { λ r. ⌜ r ≡ returned 3 (number-to-square-at (area-at w h ox oy) number) (now (result .entry)) ⌝ }
+    ensures values { λ r. ⌜ now (result .exit) ≡ written 3 (number-to-square-at (area-at w h ox oy) number) (now (result .entry)) ⌝ }
 {
     if result.len() < 3 {
         return SHORT;
     }
-    let answer = curve::number_to_square(Area { w: w, h: h }, number);
+    let answer = curve::number_to_square(Area { w, h, ox, oy }, number);
     match answer {
         SquareAnswer::Found { x, y, blocks } => {
-            put_three(result, x, y, blocks);
+            put_square(result, x, y, blocks);
             0
         }
         SquareAnswer::Refused(r) => {
-            put_three(result, 0, 0, 0);
+            put_square(result, 0, 0, 0);
             terms::refusal_number(r)
         }
     }
@@ -73,17 +102,19 @@ pub extern "C" fn uvalinda_number_to_square(w: u32, h: u32, number: u32, result:
 pub extern "C" fn uvalinda_square_to_number(
     w: u32,
     h: u32,
-    x: u32,
-    y: u32,
+    ox: i32,
+    oy: i32,
+    x: i32,
+    y: i32,
     result: &mut [u32],
 ) -> u32
-    ensures returned { λ r. ⌜ r ≡ returned 2 (square-to-number w h x y) (now (result .entry)) ⌝ }
-    ensures values { λ r. ⌜ now (result .exit) ≡ written 2 (square-to-number w h x y) (now (result .entry)) ⌝ }
+    ensures returned { λ r. ⌜ r ≡ returned 2 (square-to-number-at (area-at w h ox oy) x y) (now (result .entry)) ⌝ }
+    ensures values { λ r. ⌜ now (result .exit) ≡ written 2 (square-to-number-at (area-at w h ox oy) x y) (now (result .entry)) ⌝ }
 {
     if result.len() < 2 {
         return SHORT;
     }
-    let answer = curve::square_to_number(Area { w: w, h: h }, x, y);
+    let answer = curve::square_to_number(Area { w, h, ox, oy }, x, y);
     match answer {
         NumberAnswer::Found { number, blocks } => {
             put_two(result, number, blocks);
@@ -98,21 +129,27 @@ pub extern "C" fn uvalinda_square_to_number(
 
 // x and y of an area's finish square.
 #[no_mangle]
-pub extern "C" fn uvalinda_finish_square(w: u32, h: u32, result: &mut [u32]) -> u32
-    ensures returned { λ r. ⌜ r ≡ returned 2 (finish-square w h) (now (result .entry)) ⌝ }
-    ensures values { λ r. ⌜ now (result .exit) ≡ written 2 (finish-square w h) (now (result .entry)) ⌝ }
+pub extern "C" fn uvalinda_finish_square(
+    w: u32,
+    h: u32,
+    ox: i32,
+    oy: i32,
+    result: &mut [i32],
+) -> u32
+    ensures returned { λ r. ⌜ r ≡ returned 2 (finish-square-at (area-at w h ox oy)) (now (result .entry)) ⌝ }
+    ensures values { λ r. ⌜ now (result .exit) ≡ written 2 (finish-square-at (area-at w h ox oy)) (now (result .entry)) ⌝ }
 {
     if result.len() < 2 {
         return SHORT;
     }
-    let answer = curve::finish_square(Area { w: w, h: h });
+    let answer = curve::finish_square(Area { w, h, ox, oy });
     match answer {
         FinishAnswer::Found { x, y } => {
-            put_two(result, x, y);
+            put_place(result, x, y);
             0
         }
         FinishAnswer::Refused(r) => {
-            put_two(result, 0, 0);
+            put_place(result, 0, 0);
             terms::refusal_number(r)
         }
     }
@@ -151,7 +188,7 @@ pub extern "C" fn uvalinda_fill_by_number(
     if blocks.len() < 1 {
         return SHORT;
     }
-    let answer = tables::fill_by_number(Area { w: w, h: h }, table);
+    let answer = tables::fill_by_number(Area { w, h, ox: 0, oy: 0 }, table);
     tell_fill(answer, blocks)
 }
 
@@ -170,7 +207,7 @@ pub extern "C" fn uvalinda_fill_by_square(
     if blocks.len() < 1 {
         return SHORT;
     }
-    let answer = tables::fill_by_square(Area { w: w, h: h }, table);
+    let answer = tables::fill_by_square(Area { w, h, ox: 0, oy: 0 }, table);
     tell_fill(answer, blocks)
 }
 
@@ -205,7 +242,7 @@ pub extern "C" fn uvalinda_check_by_number(w: u32, h: u32, table: &[u32], result
     if result.len() < 3 {
         return SHORT;
     }
-    let answer = tables::check_by_number(Area { w: w, h: h }, table);
+    let answer = tables::check_by_number(Area { w, h, ox: 0, oy: 0 }, table);
     tell_check(answer, result)
 }
 
@@ -218,7 +255,7 @@ pub extern "C" fn uvalinda_check_by_square(w: u32, h: u32, table: &[u32], result
     if result.len() < 3 {
         return SHORT;
     }
-    let answer = tables::check_by_square(Area { w: w, h: h }, table);
+    let answer = tables::check_by_square(Area { w, h, ox: 0, oy: 0 }, table);
     tell_check(answer, result)
 }
 
@@ -249,55 +286,41 @@ fn tell_runs(answer: RunsAnswer, result: &mut [u32]) -> u32
 pub extern "C" fn uvalinda_runs_for_window(
     w: u32,
     h: u32,
-    x0: u32,
-    y0: u32,
-    x1: u32,
-    y1: u32,
+    ox: i32,
+    oy: i32,
+    x0: i32,
+    y0: i32,
+    x1: i32,
+    y1: i32,
     runs: &mut [u32],
     result: &mut [u32],
 ) -> u32
-    ensures returned { λ r. ⌜ r ≡ returned 1 (runs-for-window w h (window-at x0 y0 x1 y1) (now (runs .entry))) (now (result .entry)) ⌝ }
+    ensures returned { λ r. ⌜ r
+        ≡ returned 1 (runs-for-window-at (area-at w h ox oy) (window-at x0 y0 x1 y1) (now (runs .entry))) (now (result .entry)) ⌝ }
     ensures count { λ r. ⌜ now (result .exit)
-        ≡ written 1 (runs-for-window w h (window-at x0 y0 x1 y1) (now (runs .entry))) (now (result .entry)) ⌝ }
+        ≡ written 1 (runs-for-window-at (area-at w h ox oy) (window-at x0 y0 x1 y1) (now (runs .entry))) (now (result .entry)) ⌝ }
     ensures runs { λ r. ⌜ now (runs .exit)
-        ≡ left (slice-after w h (window-at x0 y0 x1 y1) (now (runs .entry))) (now (runs .entry)) (now (result .entry)) ⌝ }
+        ≡ left (slice-after-at (area-at w h ox oy) (window-at x0 y0 x1 y1) (now (runs .entry))) (now (runs .entry)) (now (result .entry)) ⌝ }
 {
     if result.len() < 1 {
         return SHORT;
     }
     let window = Window { x0, y0, x1, y1 };
-    let answer = windows::runs_for_window(Area { w: w, h: h }, window, runs);
+    let answer = windows::runs_for_window(Area { w, h, ox, oy }, window, runs);
     tell_runs(answer, result)
 }
 
-// The first six places of a slice: an area, what kind of reply, and its values.
-fn put_six(result: &mut [u32], area: Area, kind: u32, x: u32, y: u32, z: u32)
-    requires { ⌜ 6 ≤ length (now result) ⌝ }
-    ensures { λ r. ⌜ now (result .exit) ≡ area .w ∷ area .h ∷ kind ∷ x ∷ y ∷ z ∷ drop 6 (now (result .entry)) ⌝ }
-{
-    result[0] = area.w;
-    result[1] = area.h;
-    result[2] = kind;
-    result[3] = x;
-    result[4] = y;
-    result[5] = z;
+// A reply as four numbers: what kind it is, and its values.
+struct Told {
+    kind: i64,
+    a: i64,
+    b: i64,
+    c: i64,
 }
 
-// The area in force, 0 by 0 for none.
-fn area_in_force(clerk: Clerk) -> Area
-    ensures { λ r. ⌜ r ≡ area-of clerk ⌝ }
-{
-    match clerk {
-        Clerk::NoArea => Area { w: 0, h: 0 },
-        Clerk::InForce(area) => area,
-    }
-}
-
-// A reply under the area then in force: 1 for AREA, 2 for CELL, 3 for NUMBER, with its values, or a refusal.
-fn tell_reply(area: Area, reply: Reply, result: &mut [u32]) -> u32
-    requires { ⌜ 6 ≤ length (now result) ⌝ }
-    ensures returned { λ r. ⌜ r ≡ handled-figures area (said reply) .refusal ⌝ }
-    ensures values { λ r. ⌜ now (result .exit) ≡ handled-figures area (said reply) .values ++ drop 6 (now (result .entry)) ⌝ }
+// A reply's numbers: 1 for AREA, 2 for CELL, 3 for NUMBER, 4 for ORIGIN, with its values, or zeros for a refusal.
+fn numbers_of(reply: Reply) -> Told
+    ensures { λ r. ⌜ (r .kind ∷ r .a ∷ r .b ∷ r .c ∷ []) ≡ shown (said reply .word) (said reply .numbers) ⌝ }
 {
     match reply {
         Reply::AreaSet {
@@ -306,35 +329,114 @@ fn tell_reply(area: Area, reply: Reply, result: &mut [u32]) -> u32
             squares,
             x,
             y,
-        } => {
-            put_six(result, area, 1, squares, x, y);
-            0
-        }
-        Reply::Cell { x, y, blocks } => {
-            put_six(result, area, 2, x, y, blocks);
-            0
-        }
-        Reply::Number { number, blocks } => {
-            put_six(result, area, 3, number, blocks, 0);
-            0
-        }
-        Reply::Refused(r) => {
-            put_six(result, area, 0, 0, 0, 0);
-            terms::refusal_number(r)
-        }
+        } => Told {
+            kind: 1,
+            a: squares as i64,
+            b: x as i64,
+            c: y as i64,
+        },
+        Reply::OriginSet { ox, oy } => Told {
+            kind: 4,
+            a: ox as i64,
+            b: oy as i64,
+            c: 0,
+        },
+        Reply::Cell { x, y, blocks } => Told {
+            kind: 2,
+            a: x as i64,
+            b: y as i64,
+            c: blocks as i64,
+        },
+        Reply::Number { number, blocks } => Told {
+            kind: 3,
+            a: number as i64,
+            b: blocks as i64,
+            c: 0,
+        },
+        Reply::Refused(_) => Told {
+            kind: 0,
+            a: 0,
+            b: 0,
+            c: 0,
+        },
     }
+}
+
+// The number of a refusal, 0 for any other reply.
+fn refusal_said(reply: Reply) -> u32
+    ensures { λ r. ⌜ r ≡ refusal-said (said reply .word) (said reply .numbers) ⌝ }
+{
+    match reply {
+        Reply::Refused(r) => terms::refusal_number(r),
+        _ => 0,
+    }
+}
+
+// The first four places of a slice: the area in force with its origin.
+fn put_state(result: &mut [i64], area: Area)
+    requires { ⌜ 4 ≤ length (now result) ⌝ }
+    ensures { λ r. ⌜ now (result .exit) ≡ state area ++ drop 4 (now (result .entry)) ⌝ }
+{
+    result[0] = area.w as i64;
+    result[1] = area.h as i64;
+    result[2] = area.ox as i64;
+    result[3] = area.oy as i64;
+}
+
+// The four after them: a reply.
+fn put_told(result: &mut [i64], told: Told)
+    requires { ⌜ 8 ≤ length (now result) ⌝ }
+    ensures { λ r. ⌜ now (result .exit)
+        ≡ take 4 (now (result .entry)) ++ (told .kind ∷ told .a ∷ told .b ∷ told .c ∷ drop 8 (now (result .entry))) ⌝ }
+{
+    let kind = told.kind;
+    let a = told.a;
+    let b = told.b;
+    let c = told.c;
+    result[4] = kind;
+    result[5] = a;
+    result[6] = b;
+    result[7] = c;
+}
+
+// The area in force, 0 by 0 for none.
+fn area_in_force(clerk: Clerk) -> Area
+    ensures { λ r. ⌜ r ≡ area-of clerk ⌝ }
+{
+    match clerk {
+        Clerk::NoArea => terms::at_post(0, 0),
+        Clerk::InForce(area) => area,
+    }
+}
+
+// A reply under the area then in force.
+fn tell_reply(area: Area, reply: Reply, result: &mut [i64]) -> u32
+    requires { ⌜ 8 ≤ length (now result) ⌝ }
+    ensures returned { λ r. ⌜ r ≡ handled-figures area (said reply) .refusal ⌝ }
+    ensures values { λ r. ⌜ now (result .exit) ≡ handled-figures area (said reply) .values ++ drop 8 (now (result .entry)) ⌝ }
+{
+    put_state(result, area);
+    put_told(result, numbers_of(reply));
+    refusal_said(reply)
 }
 
 // Answers an order line under a caller's area, and says which area is then in force.
 #[no_mangle]
-pub extern "C" fn uvalinda_handle_line(w: u32, h: u32, line: &[u8], result: &mut [u32]) -> u32
-    ensures returned { λ r. ⌜ r ≡ returned 6 (handled w h (now (line .entry))) (now (result .entry)) ⌝ }
-    ensures values { λ r. ⌜ now (result .exit) ≡ written 6 (handled w h (now (line .entry))) (now (result .entry)) ⌝ }
+pub extern "C" fn uvalinda_handle_line(
+    w: u32,
+    h: u32,
+    ox: i32,
+    oy: i32,
+    line: &[u8],
+    result: &mut [i64],
+) -> u32
+    ensures returned { λ r. ⌜ r ≡ returned 8 (handled w h ox oy (now (line .entry))) (now (result .entry)) ⌝ }
+    ensures values { λ r. ⌜ now (result .exit) ≡ written 8 (handled w h ox oy (now (line .entry))) (now (result .entry)) ⌝ }
 {
-    if result.len() < 6 {
+    if result.len() < 8 {
         return SHORT;
     }
-    let clerk = clerk::clerk_under(Area { w: w, h: h });
+    let clerk = clerk::clerk_under(Area { w, h, ox, oy });
     let handled = clerk.handle(line);
     let after = handled.clerk;
     let reply = handled.reply;

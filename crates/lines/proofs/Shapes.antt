@@ -1,17 +1,22 @@
 -- What the fields after the word make of a line: an empty one is refusal 6, and one that is no number 5.
-use mathlib.Core.Bool.{true, false, or-true}
+use mathlib.Core.Bool.{Bool, true, false, _||_}
 use mathlib.Core.List.{List, [], _∷_}
+use mathlib.Core.Option.{Option}
 use mathlib.Core.Path.{_≡_, refl, sym, ap, ap₂, _∙_}
 use Prim.Native.Nat.{ℕ, _≤_, _<_}
 use native.Mathlib.Omega.{arith}
+use borrow.Author.Tests.{le-ltb}
+use lib.Dec.{ltb}
 use lib.ListN.{length}
 use Rattle.terms.specs.declared.Refusal.the-variants.{WrongShape}
 use Rattle.words.specs.declared.Numeral.{Numeral}
+use Rattle.words.specs.declared.SignedNumeral.{SignedNumeral}
 use Rattle.lines.specs.declared.Request.{Request}
 use Rattle.lines.specs.declared.Request.the-variants.{Refused}
 use Rattle.words.specs.Words.{numeral, numeral-figures}
-use Rattle.words.proofs.Promises.{numeral-one}
-use Rattle.lines.specs.Lines.{is-empty, by-one, of-one, by-two, of-two}
+use Rattle.words.specs.Signed.{signed-numeral, signed-numeral-figures}
+use Rattle.words.proofs.Promises.{numeral-one, signed-one}
+use Rattle.lines.specs.Lines.{as-number, as-signed, number, signed-number, is-empty, by-one, of-one, by-two, of-two}
 
 -- the fields after the word
 empty : (s : List ℕ) → length s < 1 → is-empty s ≡ true
@@ -26,24 +31,36 @@ pub one-empty : (asked : ℕ → Request) (a : List ℕ) → length a < 1 → Re
 one-empty asked a l = sym (rw (empty a l))
 
 -- what the code reads of a field, r, is told apart as n
-read-as : (a : List ℕ) {r n : Numeral} → numeral-figures r ≡ numeral-figures (numeral a) → r ≡ n → n ≡ numeral a
-read-as a said is = sym is ∙ numeral-one _ _ said refl
+pub read-as : (a : List ℕ) {r n : Numeral} → numeral-figures r ≡ numeral-figures (numeral a) → r ≡ n → as-number n ≡ number a
+read-as a {r} said is = ap as-number (sym is ∙ numeral-one r (numeral a) said refl)
+
+pub read-as-signed : (a : List ℕ) {r n : SignedNumeral} → signed-numeral-figures r ≡ signed-numeral-figures (signed-numeral a) → r ≡ n
+    → as-signed n ≡ signed-number a
+read-as-signed a {r} said is = ap as-signed (sym is ∙ signed-one r (signed-numeral a) said refl)
 
 pub one-there : (asked : ℕ → Request) (a : List ℕ) → 1 ≤ length a → {r n : Numeral} → numeral-figures r ≡ numeral-figures (numeral a) → r ≡ n
-    → by-one asked n ≡ of-one asked a
+    → by-one asked (as-number n) ≡ of-one asked a
 one-there asked a l said is = ap (by-one asked) (read-as a said is) ∙ sym (rw (not-empty a l))
 
-pub first-empty : (asked : ℕ → ℕ → Request) (a b : List ℕ) → length a < 1 → Refused WrongShape ≡ of-two asked a b
-first-empty asked a b l = sym (rw (empty a l))
+-- two fields after the word: one is empty, or neither; and in whichever way they are read
+pub first-empty : (a b : List ℕ) → length a < 1 → true ≡ (is-empty a || is-empty b)
+first-empty a b l = sym (rw (empty a l))
 
-pub second-empty : (asked : ℕ → ℕ → Request) (a b : List ℕ) → length b < 1 → Refused WrongShape ≡ of-two asked a b
-second-empty asked a b l = sym (rw (empty b l, or-true (is-empty a)))
+pub by-second : (a b : List ℕ) → 1 ≤ length a → ltb (length b) 1 ≡ (is-empty a || is-empty b)
+by-second a b l = by b ∙ sym (rw (not-empty a l))
+  where
+    by : (b : List ℕ) → ltb (length b) 1 ≡ is-empty b
+    by [] = refl
+    by (c ∷ b) = le-ltb (length (c ∷ b)) 1 (omega arith)
 
-module _ (asked : ℕ → ℕ → Request) (a b : List ℕ) (l : 1 ≤ length a) (k : 1 ≤ length b) {r m : Numeral}
-    (first : numeral-figures r ≡ numeral-figures (numeral a)) (is-m : r ≡ m) where
-  pub two-there : {t n : Numeral} → numeral-figures t ≡ numeral-figures (numeral b) → t ≡ n → by-two asked m n ≡ of-two asked a b
-  two-there second is-n = ap₂ (by-two asked) (read-as a first is-m) (read-as b second is-n) ∙ sym (rw (not-empty a l, not-empty b k))
+module _ {A : Type 0} (read : List ℕ → Option A) (asked : A → A → Request) (a b : List ℕ) {missing : Bool} (told : missing ≡ (is-empty a || is-empty b)) where
+  pub one-missing : missing ≡ true → Refused WrongShape ≡ of-two read asked a b
+  one-missing e = sym (rw (sym told ∙ e))
 
-  -- the second field is not read
-  pub second-unread : by-two asked m (numeral b) ≡ of-two asked a b
-  second-unread = two-there {t = numeral b} refl refl
+  module _ (both : missing ≡ false) {m : Option A} (first : m ≡ read a) where
+    pub two-there : {n : Option A} → n ≡ read b → by-two asked m n ≡ of-two read asked a b
+    two-there second = ap₂ (by-two asked) first second ∙ sym (rw (sym told ∙ both))
+
+    -- the second field is not read
+    pub second-unread : by-two asked m (read b) ≡ of-two read asked a b
+    second-unread = two-there refl

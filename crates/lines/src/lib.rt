@@ -5,8 +5,7 @@ mod requests;
 
 use terms::Refusal;
 ghost use mathlib.Core.Path.{_≡_};
-ghost use Rattle.words.specs.Words.{begins};
-ghost use Rattle.lines.specs.Lines.{AREA, request, asked, Says};
+ghost use Rattle.lines.specs.Lines.{begins-setting, request, asked, Says};
 
 // How many bytes a line may have.
 const MOST_BYTES: usize = 64;
@@ -14,16 +13,20 @@ const MOST_BYTES: usize = 64;
 // What a line asks.
 pub enum Request {
     SetArea { w: u32, h: u32 },
+    SetOrigin { ox: i32, oy: i32 },
     AskNumber { i: u32 },
-    AskSquare { x: u32, y: u32 },
+    AskSquare { x: i32, y: i32 },
     Refused(Refusal),
 }
 
-// Whether a line begins with the bytes of AREA, whatever it asks.
-pub fn begins_area(line: &[u8]) -> bool
-    ensures { λ r. ⌜ r ≡ begins (now (line .entry)) AREA ⌝ }
+// Whether a line begins with the bytes of AREA or of ORIGIN, whatever it asks.
+pub fn begins_setting(line: &[u8]) -> bool
+    ensures { λ r. ⌜ r ≡ begins-setting (now (line .entry)) ⌝ }
 {
-    words::begins_with(line, b"AREA")
+    if words::begins_with(line, b"AREA") {
+        return true;
+    }
+    words::begins_with(line, b"ORIGIN")
 }
 
 // What a line asks, whatever its bytes are.

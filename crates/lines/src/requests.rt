@@ -4,10 +4,11 @@ use crate::fields::Field;
 use crate::fields::bytes_of;
 use terms::Refusal;
 use words::Numeral;
-ghost use mathlib.Core.Bool.{cond};
+use words::SignedNumeral;
+ghost use mathlib.Core.Bool.{cond, _||_};
 ghost use mathlib.Core.Path.{_≡_};
-ghost use Rattle.lines.specs.declared.Request.the-variants.{SetArea, AskNumber, AskSquare};
-ghost use Rattle.lines.specs.Lines.{of-one, of-two, two-fields, three-fields};
+ghost use Rattle.lines.specs.declared.Request.the-variants.{SetArea, SetOrigin, AskNumber, AskSquare};
+ghost use Rattle.lines.specs.Lines.{number, signed-number, is-empty, of-one, of-two, two-fields, three-fields};
 ghost use Rattle.lines.specs.Reading.{made-of-three};
 
 // What a line asks with one number after its word.
@@ -23,27 +24,50 @@ fn with_one(a: &[u8]) -> Request
     }
 }
 
-// What a line asks with two numbers after its word. Both fields have to be there before either is read.
-fn with_two(a: &[u8], b: &[u8], sets: bool) -> Request
-    ensures { λ r. ⌜ r ≡ of-two (cond sets SetArea AskSquare) (now (a .entry)) (now (b .entry)) ⌝ }
+// Whether one of two fields is empty. Both have to be there before either is read.
+fn is_missing(a: &[u8], b: &[u8]) -> bool
+    ensures { λ r. ⌜ r ≡ (is-empty (now (a .entry)) || is-empty (now (b .entry))) ⌝ }
 {
     if a.len() < 1 {
-        return Request::Refused(Refusal::WrongShape);
+        return true;
     }
-    if b.len() < 1 {
+    b.len() < 1
+}
+
+// What a line asks with two numbers after its word.
+fn with_two(a: &[u8], b: &[u8]) -> Request
+    ensures { λ r. ⌜ r ≡ of-two number SetArea (now (a .entry)) (now (b .entry)) ⌝ }
+{
+    if is_missing(a, b) {
         return Request::Refused(Refusal::WrongShape);
     }
     match words::numeral_of(a) {
-        Numeral::Value(x) => match words::numeral_of(b) {
-            Numeral::Value(y) => {
-                if sets {
-                    return Request::SetArea { w: x, h: y };
-                }
-                Request::AskSquare { x: x, y: y }
-            }
+        Numeral::Value(w) => match words::numeral_of(b) {
+            Numeral::Value(h) => Request::SetArea { w: w, h: h },
             Numeral::NoNumber => Request::Refused(Refusal::NotANumber),
         },
         Numeral::NoNumber => Request::Refused(Refusal::NotANumber),
+    }
+}
+
+// The same with two numbers that may carry a minus.
+fn with_two_signed(a: &[u8], b: &[u8], sets: bool) -> Request
+    ensures { λ r. ⌜ r ≡ of-two signed-number (cond sets SetOrigin AskSquare) (now (a .entry)) (now (b .entry)) ⌝ }
+{
+    if is_missing(a, b) {
+        return Request::Refused(Refusal::WrongShape);
+    }
+    match words::signed_numeral_of(a) {
+        SignedNumeral::Value(x) => match words::signed_numeral_of(b) {
+            SignedNumeral::Value(y) => {
+                if sets {
+                    return Request::SetOrigin { ox: x, oy: y };
+                }
+                Request::AskSquare { x: x, y: y }
+            }
+            SignedNumeral::NoNumber => Request::Refused(Refusal::NotANumber),
+        },
+        SignedNumeral::NoNumber => Request::Refused(Refusal::NotANumber),
     }
 }
 
@@ -62,10 +86,13 @@ fn three_fields(word: &[u8], a: &[u8], b: &[u8]) -> Request
     ensures { λ r. ⌜ r ≡ three-fields (now (word .entry)) (now (a .entry)) (now (b .entry)) ⌝ }
 {
     if words::is_word(word, b"AREA") {
-        return with_two(a, b, true);
+        return with_two(a, b);
+    }
+    if words::is_word(word, b"ORIGIN") {
+        return with_two_signed(a, b, true);
     }
     if words::is_word(word, b"S") {
-        return with_two(a, b, false);
+        return with_two_signed(a, b, false);
     }
     Request::Refused(Refusal::WrongShape)
 }

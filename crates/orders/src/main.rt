@@ -135,7 +135,7 @@ fn answer_argument(word: &[u8]) {
         return;
     }
     if words::is_word(word, b"--version") {
-        say(b"orders 1.0.0\n");
+        say(b"orders 2.0.0\n");
         return;
     }
     if words::begins_with(word, b"-") {

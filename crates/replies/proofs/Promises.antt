@@ -6,38 +6,41 @@ use mathlib.Core.Path.{_≡_, refl, sym, ap, _∙_}
 use Prim.Native.Nat.{ℕ, _+_}
 use native.Mathlib.Omega.{arith}
 use lib.Dec.{leb}
+use lib.IntN.{ℤ, pos}
 use lib.ListN.{replicate}
 use Rattle.words.specs.Letters.{bytes}
 use Rattle.lines.proofs.Asking.{between}
-use Rattle.clerk.specs.Clerk.{Word, Area-set, Cell, Number, Refused, Said, says}
-use Rattle.words.specs.Decimal.{decimal-by, decimal}
+use Rattle.clerk.specs.Clerk.{Word, Area-set, Origin-set, Cell, Number, Refused, Said, says}
+use Rattle.words.specs.Decimal.{decimal-by, decimal, signed-decimal}
 use Rattle.replies.specs.Text.{all-spaced, spaced-word, text, stop, longest, Writes, if-room}
 
--- "prints for each line its number from 1, a space, and one of: AREA w h n fx fy; CELL x y k; NUMBER i k; REFUSED r", and a newline.
+-- "prints for each line its number from 1, a space, and one of: AREA w h n fx fy; CELL x y k; NUMBER i k; REFUSED r", order 6's "ORIGIN ox oy", and a newline.
 abbrev pub printed-word : Word → List ℕ
 printed-word Area-set = bytes "AREA"
+printed-word Origin-set = bytes "ORIGIN"
 printed-word Cell = bytes "CELL"
 printed-word Number = bytes "NUMBER"
 printed-word Refused = bytes "REFUSED"
 
-numbers-spaced : (first : List ℕ) (ns : List ℕ) → between (first ∷ map decimal ns) ≡ first ++ all-spaced ns
+numbers-spaced : (first : List ℕ) (zs : List ℤ) → between (first ∷ map signed-decimal zs) ≡ first ++ all-spaced zs
 unfolding between
 numbers-spaced first [] = sym (append-nil first)
-numbers-spaced first (n ∷ ns) = ap (λ t. first ++ (32 ∷ t)) (numbers-spaced (decimal n) ns)
+numbers-spaced first (z ∷ zs) = ap (λ t. first ++ (32 ∷ t)) (numbers-spaced (signed-decimal z) zs)
 
 word-spaced : (w : Word) → spaced-word w ≡ 32 ∷ printed-word w
 word-spaced Area-set = refl
+word-spaced Origin-set = refl
 word-spaced Cell = refl
 word-spaced Number = refl
 word-spaced Refused = refl
 
-pub text-is : (line : ℕ) (s : Said) → text line s ≡ between (decimal line ∷ printed-word (s .word) ∷ map decimal (s .numbers)) ++ bytes "\n"
+pub text-is : (line : ℕ) (s : Said) → text line s ≡ between (decimal line ∷ printed-word (s .word) ∷ map signed-decimal (s .numbers)) ++ bytes "\n"
 unfolding text between
 text-is line s =
     let said = numbers-spaced (printed-word (s .word)) (s .numbers) in
     ap (λ w. decimal line ++ ((w ++ all-spaced (s .numbers)) ++ (10 ∷ []))) (word-spaced (s .word))
     ∙ ap (λ t. decimal line ++ ((32 ∷ t) ++ (10 ∷ []))) (sym said)
-    ∙ sym (append-assoc (decimal line) (32 ∷ between (printed-word (s .word) ∷ map decimal (s .numbers))) (10 ∷ []))
+    ∙ sym (append-assoc (decimal line) (32 ∷ between (printed-word (s .word) ∷ map signed-decimal (s .numbers))) (10 ∷ []))
 
 -- Two results that meet the promise of `write_reply`, of `write_stop` or of a call that writes as they do are one.
 pub writes-one : {before bytes one other : List ℕ} {at end end′ : ℕ} → Writes before at bytes one end → Writes before at bytes other end′
@@ -59,7 +62,7 @@ abbrev leaves : (ℕ → List ℕ) → ((line : ℕ) → List ℕ) → (ℕ → 
 leaves bytes after end = (line : ℕ) → Writes buffer 0 (if-room buffer 0 (bytes line)) (after line) (end line)
 
 abbrev six : ℕ → List ℕ
-six line = text line (says Refused (6 ∷ []))
+six line = text line (says Refused (pos 6 ∷ []))
 
 pub reply-not-written : leaves six (λ line. buffer) (λ line. 0) → ⊥
 unfolding text decimal decimal-by

@@ -1,15 +1,17 @@
 -- Bytes written one after the other, and the room for them.
-use mathlib.Core.Bool.{Bool, true, false, not}
+use mathlib.Core.Bool.{Bool, true, false, not, true≢false}
 use mathlib.Core.List.{List, [], _∷_, _++_, append-nil, append-assoc}
 use mathlib.Core.Path.{_≡_, refl, sym, ap, ap₂, subst, _∙_}
 use Prim.Native.Nat.{ℕ, suc, _+_, _*_, _-_, _/_, _≤_, _<_}
 use native.Mathlib.Nat.{add-zero}
 use native.Mathlib.Omega.{arith}
-use borrow.Author.Tests.{not-true, not-false, leb-true, leb-false, le-leb, lt-leb}
+use borrow.Author.Tests.{not-true, not-false, ltb-true, leb-true, leb-false, le-leb, lt-leb}
 use lib.Dec.{leb}
+use lib.IntN.{ℤ, pos, negsuc, _-ℤ_}
 use lib.ListN.{length, length-append, getD, take, drop, set}
 use lib.Seq.{sets, sets-eq, length-sets, take-suc, take-length, length-take-le, take-at, drop-at, slice}
-use Rattle.terms.specs.Terms.{past-32-bits}
+use lib.Signed.{ltZ}
+use Rattle.terms.specs.Terms.{past-32-bits, in-signs, distance-of}
 use Rattle.words.specs.Decimal.{decimal}
 use Rattle.words.proofs.Decimals.{ten-digits, digits-more}
 use Rattle.replies.specs.Text.{spaced, all-spaced, longest, longest-spaced, Writes, if-room}
@@ -72,32 +74,65 @@ writes-all {t} {t′} {at} s i e w =
 
 -- the numbers that are written so far, from a place on, with at most 11 bytes for each, and the room for them all
 pub record Numbered (t : List ℕ) (from : ℕ) (ns t′ : List ℕ) (end i : ℕ) : Type 0 where
-  pub so-far : Writes t from (all-spaced (take i ns)) t′ end
+  pub so-far : Writes t from (all-spaced (in-signs (take i ns))) t′ end
   pub near : end ≤ from + longest-spaced * i
   pub among : i ≤ length ns
   pub room : from + longest-spaced * length ns ≤ length t
 
-all-spaced-last : (ns : List ℕ) (n : ℕ) → all-spaced (ns ++ (n ∷ [])) ≡ all-spaced ns ++ spaced n
-all-spaced-last [] n = append-nil (spaced n)
-all-spaced-last (m ∷ ns) n = ap (spaced m ++_) (all-spaced-last ns n) ∙ sym (append-assoc (spaced m) (all-spaced ns) (spaced n))
+all-spaced-last : (ns : List ℕ) (n : ℕ) → all-spaced (in-signs (ns ++ (n ∷ []))) ≡ all-spaced (in-signs ns) ++ spaced (pos n)
+unfolding in-signs
+all-spaced-last [] n = append-nil (spaced (pos n))
+all-spaced-last (m ∷ ns) n =
+    ap (spaced (pos m) ++_) (all-spaced-last ns n) ∙ sym (append-assoc (spaced (pos m)) (all-spaced (in-signs ns)) (spaced (pos n)))
 
 pub numbered-none : {t : List ℕ} {from : ℕ} {ns : List ℕ} → from + longest-spaced * length ns ≤ length t → Numbered t from ns t from 0
+unfolding in-signs
 numbered-none {t} {from} room = record { so-far = writes-none t from; near = omega arith; among = omega arith; room = room }
 
 pub numbered-next : {t ns t′ t″ : List ℕ} {from end end′ i : ℕ} → Numbered t from ns t′ end i → i < length ns
-    → Writes t′ end (spaced (getD ns i 0)) t″ end′ → end′ ≤ end + longest-spaced → Numbered t from ns t″ end′ (i + 1)
+    → Writes t′ end (spaced (pos (getD ns i 0))) t″ end′ → end′ ≤ end + longest-spaced → Numbered t from ns t″ end′ (i + 1)
 numbered-next {t} {ns} {t′} {t″} {from} {end} {end′} {i} before more next few =
     let on : i + 1 ≡ suc i = omega arith in
-    let all : all-spaced (take (i + 1) ns) ≡ all-spaced (take i ns) ++ spaced (getD ns i 0) =
-    ap (λ n. all-spaced (take n ns)) on ∙ ap all-spaced (take-suc ns i 0 more) ∙ all-spaced-last (take i ns) (getD ns i 0) in
+    let all : all-spaced (in-signs (take (i + 1) ns)) ≡ all-spaced (in-signs (take i ns)) ++ spaced (pos (getD ns i 0)) =
+    ap (λ n. all-spaced (in-signs (take n ns))) on ∙ ap (λ ns. all-spaced (in-signs ns)) (take-suc ns i 0 more) ∙ all-spaced-last (take i ns) (getD ns i 0) in
     record { so-far = rw all (writes-both (before .so-far) next); near = omega arith; among = omega arith; room = before .room }
 
 pub numbered-all : {t ns t′ : List ℕ} {from end i : ℕ} → Numbered t from ns t′ end i → length ns ≤ i
-    → Writes t from (all-spaced ns) t′ end × (end ≤ from + longest-spaced * length ns)
+    → Writes t from (all-spaced (in-signs ns)) t′ end × (end ≤ from + longest-spaced * length ns)
 numbered-all {t} {ns} {t′} {from} {end} {i} done last =
     let all : i ≡ length ns = omega arith in
     let same : take i ns ≡ ns = ap (λ n. take n ns) all ∙ take-length ns in
     (rw same at (done .so-far), omega arith)
+
+-- a signed number by its sign, with its distance from 0 for its magnitude
+module _ {d : ℕ} where
+  pub minus-spaced : (z : ℤ) → ltZ z (pos 0) ≡ true → d ≡ distance-of (pos 0 -ℤ z) → 32 ∷ 45 ∷ decimal d ≡ spaced z
+  minus-spaced (pos n) e is = absurd (omega (arith, ltb-true n 0 e))
+  minus-spaced (negsuc n) e is = let all : d ≡ n + 1 = omega arith in ap (λ d. 32 ∷ 45 ∷ decimal d) all
+
+  pub plain-spaced : (z : ℤ) → ltZ z (pos 0) ≡ false → d ≡ distance-of (z -ℤ pos 0) → spaced (pos d) ≡ spaced z
+  plain-spaced (pos n) e is = let all : d ≡ n = omega arith in ap (λ d. spaced (pos d)) all
+  plain-spaced (negsuc n) e is = absurd (true≢false e)
+
+-- a reply's numbers from those that are written one after the other
+spaced-both : (us vs : List ℤ) → all-spaced us ++ all-spaced vs ≡ all-spaced (us ++ vs)
+spaced-both [] vs = refl
+spaced-both (u ∷ us) vs = append-assoc (spaced u) (all-spaced us) (all-spaced vs) ∙ ap (spaced u ++_) (spaced-both us vs)
+
+pub pair-spaced : (x y : ℤ) → spaced x ++ spaced y ≡ all-spaced (x ∷ y ∷ [])
+pair-spaced x y = ap (spaced x ++_) (sym (append-nil (spaced y)))
+
+pub area-body : (word : List ℕ) (w h n : ℕ) (x y : ℤ)
+    → (word ++ all-spaced (in-signs (w ∷ h ∷ n ∷ []))) ++ all-spaced (x ∷ y ∷ []) ≡ word ++ all-spaced (pos w ∷ pos h ∷ pos n ∷ x ∷ y ∷ [])
+unfolding in-signs
+area-body word w h n x y =
+    append-assoc word (all-spaced (pos w ∷ pos h ∷ pos n ∷ [])) (all-spaced (x ∷ y ∷ []))
+    ∙ ap (word ++_) (spaced-both (pos w ∷ pos h ∷ pos n ∷ []) (x ∷ y ∷ []))
+
+pub cell-body : (word : List ℕ) (x y : ℤ) (k : ℕ)
+    → word ++ (all-spaced (x ∷ y ∷ []) ++ spaced (pos k)) ≡ word ++ all-spaced (x ∷ y ∷ pos k ∷ [])
+cell-body word x y k =
+    ap (λ last. word ++ (all-spaced (x ∷ y ∷ []) ++ last)) (sym (append-nil (spaced (pos k)))) ∙ ap (word ++_) (spaced-both (x ∷ y ∷ []) (pos k ∷ []))
 
 -- room after a place, tested without a sum that could be too large
 pub room-is : (at n : ℕ) → at ≤ n → leb longest (n - at) ≡ leb (at + longest) n

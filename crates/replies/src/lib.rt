@@ -1,16 +1,18 @@
 // Replies as text: written to a lent buffer, with the line's number.
 use clerk::Reply;
-ghost use mathlib.Core.List.{_++_};
-ghost use mathlib.Core.Path.{_≡_};
+ghost use mathlib.Core.List.{[], _∷_, _++_};
 ghost use Prim.Native.Nat.{_+_, _*_, _≤_};
+ghost use mathlib.Core.Path.{_≡_};
 ghost use lib.Dec.{leb};
+ghost use lib.IntN.{pos};
 ghost use lib.ListN.{length};
+ghost use Rattle.terms.specs.Terms.{in-signs};
 ghost use Rattle.clerk.specs.Clerk.{said};
 ghost use Rattle.words.specs.Decimal.{decimal};
-ghost use Rattle.replies.specs.Text.{spaced, all-spaced, body, text, stop, longest, longest-spaced, longest-body, Writes, if-room};
+ghost use Rattle.replies.specs.Text.{spaced, all-spaced, body, text, stop, longest, longest-spaced, longest-pair, longest-body, Writes, if-room};
 
-// The longest text: a line's number and a reply with five numbers, each of ten digits.
-const LONGEST: usize = 71;
+// The longest text: a line's number and a reply with five numbers, each of ten digits, two of them with a minus.
+const LONGEST: usize = 73;
 
 // Copies bytes.
 fn put_bytes(out: &mut [u8], at: usize, s: &[u8]) -> usize
@@ -40,17 +42,40 @@ fn put_number(out: &mut [u8], at: usize, n: u32) -> usize
 // A space and a number.
 fn put_spaced(out: &mut [u8], at: usize, n: u32) -> usize
     requires { ⌜ at + longest-spaced ≤ length (now out) ⌝ }
-    ensures written { λ r. ⌜ Writes (now (out .entry)) at (spaced n) (now (out .exit)) r ⌝ }
+    ensures written { λ r. ⌜ Writes (now (out .entry)) at (spaced (pos n)) (now (out .exit)) r ⌝ }
     ensures near { λ r. ⌜ r ≤ at + longest-spaced ⌝ }
 {
     out[at] = b' ';
     put_number(out, at + 1, n)
 }
 
+// A space and a signed number: its magnitude is how far it lies from 0, on either side.
+fn put_signed(out: &mut [u8], at: usize, z: i32) -> usize
+    requires { ⌜ at + longest-spaced + 1 ≤ length (now out) ⌝ }
+    ensures written { λ r. ⌜ Writes (now (out .entry)) at (spaced z) (now (out .exit)) r ⌝ }
+    ensures near { λ r. ⌜ r ≤ at + longest-spaced + 1 ⌝ }
+{
+    if z < 0 {
+        let digits = put_bytes(out, at, b" -");
+        return put_number(out, digits, terms::distance(0, z));
+    }
+    put_spaced(out, at, terms::distance(z, 0))
+}
+
+// The two signed numbers of a square or an origin, each after a space.
+fn put_pair(out: &mut [u8], at: usize, x: i32, y: i32) -> usize
+    requires { ⌜ at + longest-pair ≤ length (now out) ⌝ }
+    ensures written { λ r. ⌜ Writes (now (out .entry)) at (all-spaced (x ∷ y ∷ [])) (now (out .exit)) r ⌝ }
+    ensures near { λ r. ⌜ r ≤ at + longest-pair ⌝ }
+{
+    let end = put_signed(out, at, x);
+    put_signed(out, end, y)
+}
+
 // A word and numbers, each number after a space.
 fn put_said(out: &mut [u8], at: usize, word: &[u8], numbers: &[u32]) -> usize
     requires { ⌜ at + length (now word) + longest-spaced * length (now numbers) ≤ length (now out) ⌝ }
-    ensures written { λ r. ⌜ Writes (now (out .entry)) at (now (word .entry) ++ all-spaced (now (numbers .entry))) (now (out .exit)) r ⌝ }
+    ensures written { λ r. ⌜ Writes (now (out .entry)) at (now (word .entry) ++ all-spaced (in-signs (now (numbers .entry)))) (now (out .exit)) r ⌝ }
     ensures near { λ r. ⌜ r ≤ at + length (now (word .entry)) + longest-spaced * length (now (numbers .entry)) ⌝ }
 {
     let mut end = put_bytes(out, at, word);
@@ -74,12 +99,18 @@ fn put_body(out: &mut [u8], at: usize, reply: Reply) -> usize
             x,
             y,
         } => {
-            let numbers: [u32; 5] = [w, h, squares, x, y];
-            put_said(out, at, b" AREA", &numbers[..])
+            let numbers: [u32; 3] = [w, h, squares];
+            let end = put_said(out, at, b" AREA", &numbers[..]);
+            put_pair(out, end, x, y)
+        }
+        Reply::OriginSet { ox, oy } => {
+            let end = put_bytes(out, at, b" ORIGIN");
+            put_pair(out, end, ox, oy)
         }
         Reply::Cell { x, y, blocks } => {
-            let numbers: [u32; 3] = [x, y, blocks];
-            put_said(out, at, b" CELL", &numbers[..])
+            let word = put_bytes(out, at, b" CELL");
+            let end = put_pair(out, word, x, y);
+            put_spaced(out, end, blocks)
         }
         Reply::Number { number, blocks } => {
             let numbers: [u32; 2] = [number, blocks];

@@ -1,17 +1,20 @@
 -- What the terms say: an accepted area's lengths and squares, and that a refusal's number names it alone and is never 0.
-use mathlib.Core.Bool.{Bool, true, false, not, cond, and-eq-true-iff}
+use mathlib.Core.Bool.{Bool, true, false, not, cond, and-true, and-eq-true-iff}
 use mathlib.Core.List.{List, [], _∷_}
 use mathlib.Core.Path.{_≡_, refl, sym, ap, _∙_}
 use Prim.Native.Nat.{ℕ, _*_, _≤_, _<_}
 use native.Mathlib.Nat.{mul-le-mul}
 use borrow.Author.Tests.{leb-true, ne-eqb, not-true, not-false}
 use lib.Dec.{leb, eqb}
+use lib.IntN.{ℤ, pos}
 use lib.ListN.{length, getD}
 use native.Mathlib.Omega.{arith}
+use Rattle.terms.specs.declared.Area.{Area}
 use Rattle.terms.specs.declared.Refusal.{Refusal}
 use Rattle.terms.specs.declared.Refusal.the-variants.{AreaLimit, SquareOutside, NumberOutside, TableLength, NotANumber, WrongShape, NoArea, LongLine}
-use Rattle.terms.specs.declared.Refusal.the-variants.{TooDeep, CornersCrossed, NoRoom}
+use Rattle.terms.specs.declared.Refusal.the-variants.{TooDeep, CornersCrossed, NoRoom, OriginLimit}
 use Rattle.terms.specs.Terms.{longest-side, past-32-bits, length-accepted, accepted, area-refusal, refusal-number, Figures}
+use Rattle.terms.specs.Terms.{offset-accepted, origin-accepted, at-post, grid-accepted, grid-refusal, SignedFigures}
 
 -- what a call learns from the test of its area
 pub is-accepted : (w h : ℕ) {told : Bool} → told ≡ accepted w h → not told ≡ false → accepted w h ≡ true
@@ -51,10 +54,37 @@ pub area-refused-1 : (w h : ℕ) → accepted w h ≡ false → refusal-number (
 unfolding area-refusal
 area-refused-1 w h bad = refl
 
+-- "12 .. directly after 1": which of the two a call that asks or answers squares gives, and what it learns where it goes on
+pub grid-refused-1 : (area : Area) → accepted (area .w) (area .h) ≡ false → refusal-number (grid-refusal area) ≡ 1
+grid-refused-1 area bad = rw bad (area-refused-1 (area .w) (area .h) bad)
+
+pub grid-refused-12 : (area : Area) → accepted (area .w) (area .h) ≡ true → refusal-number (grid-refusal area) ≡ 12
+grid-refused-12 area ok = rw ok
+
+pub grid-passed : (area : Area) → grid-accepted area ≡ true
+    → (accepted (area .w) (area .h) ≡ true) × ((offset-accepted (area .ox) ≡ true) × (offset-accepted (area .oy) ≡ true))
+unfolding origin-accepted
+grid-passed area e =
+    let both = and-eq-true-iff (accepted (area .w) (area .h)) (origin-accepted (area .ox) (area .oy)) .0 e in
+    (both .0, and-eq-true-iff (offset-accepted (area .ox)) (offset-accepted (area .oy)) .0 (both .1))
+
+-- an area at the post is accepted with its origin as it is without
+pub post-accepted : (w h : ℕ) → grid-accepted (at-post w h) ≡ accepted w h
+unfolding origin-accepted
+post-accepted w h = and-true (accepted w h)
+
+-- what a call learns from the test of an area and its origin
+pub is-on-grid : (area : Area) {told : Bool} → told ≡ grid-accepted area → not told ≡ false → grid-accepted area ≡ true
+is-on-grid area e passed = sym e ∙ not-false _ passed
+
+pub is-off-grid : (area : Area) {told : Bool} → told ≡ grid-accepted area → not told ≡ true → grid-accepted area ≡ false
+is-off-grid area e failed = sym e ∙ not-true _ failed
+
 -- the refusals, and which of them has a number; this one law grows with them
 refusals : List Refusal
 refusals =
-    AreaLimit ∷ SquareOutside ∷ NumberOutside ∷ TableLength ∷ NotANumber ∷ WrongShape ∷ NoArea ∷ LongLine ∷ TooDeep ∷ CornersCrossed ∷ NoRoom ∷ []
+    AreaLimit ∷ SquareOutside ∷ NumberOutside ∷ TableLength ∷ NotANumber ∷ WrongShape ∷ NoArea ∷ LongLine ∷ TooDeep ∷ CornersCrossed ∷ NoRoom
+    ∷ OriginLimit ∷ []
 
 among : List Refusal → ℕ → List Refusal
 among [] n = []
@@ -76,6 +106,7 @@ numbered-back LongLine = refl
 numbered-back TooDeep = refl
 numbered-back CornersCrossed = refl
 numbered-back NoRoom = refl
+numbered-back OriginLimit = refl
 
 -- the refusal of a number, so that no two have one, and none has 0
 pub named : ℕ → Refusal
@@ -98,3 +129,6 @@ refusal-not-0 r = ne-eqb (refusal-number r) 0 (refusal-some r)
 -- For telling two results apart: the i-th value of some figures.
 abbrev pub figure : ℕ → Figures → ℕ
 figure i f = getD (f .values) i 0
+
+abbrev pub signed-figure : ℕ → SignedFigures → ℤ
+signed-figure i f = getD (f .values) i (pos 0)

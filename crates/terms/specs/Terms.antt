@@ -1,13 +1,16 @@
 -- The terms that every contract uses: which areas are accepted, the refusals' numbers, an answer's figures on paper, and that an area is judged first.
--- Document 01, "What is bought" and "Refusal numbers", and the refusals of document 02, order 2.
+-- Document 01, "What is bought" and "Refusal numbers", the refusals of document 02, order 2, and the origin of its order 6.
 use mathlib.Core.Bool.{Bool, _&&_, cond}
-use mathlib.Core.List.{List}
+use mathlib.Core.List.{List, [], _∷_}
 use Prim.Native.Nat.{ℕ}
 use lib.Dec.{leb}
+use lib.IntN.{ℤ, pos, negsuc}
 use lib.ListN.{replicate}
+use lib.Signed.{leZ}
+use Rattle.terms.specs.declared.Area.{Area}
 use Rattle.terms.specs.declared.Refusal.{Refusal}
 use Rattle.terms.specs.declared.Refusal.the-variants.{AreaLimit, SquareOutside, NumberOutside, TableLength, NotANumber, WrongShape, NoArea, LongLine}
-use Rattle.terms.specs.declared.Refusal.the-variants.{TooDeep, CornersCrossed, NoRoom}
+use Rattle.terms.specs.declared.Refusal.the-variants.{TooDeep, CornersCrossed, NoRoom, OriginLimit}
 
 -- "An area has a width w and a height h, each from 1 to 65,535."
 abbrev pub longest-side : ℕ
@@ -27,7 +30,7 @@ area-refusal w h = AreaLimit
 abbrev pub refusal-number : Refusal → ℕ
 -- "w or h is 0 or over 65,535"
 refusal-number AreaLimit = 1
--- "x >= w or y >= h"
+-- "x >= w or y >= h", of order 6 "with the origin subtracted"
 refusal-number SquareOutside = 2
 -- "number >= w·h"
 refusal-number NumberOutside = 3
@@ -37,7 +40,7 @@ refusal-number TableLength = 4
 refusal-number NotANumber = 5
 -- "a line has the wrong shape"
 refusal-number WrongShape = 6
--- "N or S line with no area in force"
+-- "N or S line with no area in force"; order 6: "also for ORIGIN"
 refusal-number NoArea = 7
 -- "a line has over 64 bytes"
 refusal-number LongLine = 8
@@ -47,15 +50,23 @@ refusal-number TooDeep = 9
 refusal-number CornersCrossed = 10
 -- order 2: "more runs than whole pairs of room"; it tells the number of runs
 refusal-number NoRoom = 11
+-- order 6: "an origin beyond the range"
+refusal-number OriginLimit = 12
 
 -- So many blocks may hold a square that a call needs.
 abbrev pub most-blocks : ℕ
 most-blocks = 64
 
--- An answer's figures on paper: the refusal's number, 0 where there is none, and the values in their order.
-pub record Figures : Type 0 where
+-- An answer's figures on paper: the refusal's number, 0 where there is none, and the values in their order, without a sign or with one.
+pub record FiguresOf (A : Type 0) : Type 0 where
   pub refusal : ℕ
-  pub values : List ℕ
+  pub values : List A
+
+abbrev pub Figures : Type 0
+Figures = FiguresOf ℕ
+
+abbrev pub SignedFigures : Type 0
+SignedFigures = FiguresOf ℤ
 
 abbrev pub answered : List ℕ → Figures
 answered values = record { refusal = 0; values = values }
@@ -74,3 +85,38 @@ on-area w h n answer = cond (accepted w h) answer (refused (area-refusal w h) n)
 -- The least number that has not 32 bits. An area has fewer squares.
 abbrev pub past-32-bits : ℕ
 past-32-bits = 4294967296
+
+-- Order 6: "The area record gains an origin (ox, oy), each from -1,000,000 to 1,000,000". (`negsuc n` is the integer -(n + 1).)
+abbrev pub offset-accepted : ℤ → Bool
+offset-accepted o = leZ (negsuc 999999) o && leZ o (pos 1000000)
+
+unfoldable pub origin-accepted : (ox oy : ℤ) → Bool
+origin-accepted ox oy = offset-accepted ox && offset-accepted oy
+
+-- "set to 0 0 by each accepted AREA line": an area whose first square is the datum post's.
+abbrev pub at-post : (w h : ℕ) → Area
+at-post w h = record { w = w; h = h; ox = pos 0; oy = pos 0 }
+
+-- "12 for an origin beyond the range, .. in calls that ask or answer squares directly after 1": whether such a call goes on, and the refusal where it does not.
+abbrev pub grid-accepted : Area → Bool
+grid-accepted area = accepted (area .w) (area .h) && origin-accepted (area .ox) (area .oy)
+
+abbrev pub grid-refusal : Area → Refusal
+grid-refusal area = cond (accepted (area .w) (area .h)) OriginLimit (area-refusal (area .w) (area .h))
+
+-- The answer of a call that asks or answers squares, where it goes on, else the refusal, where n values would be answered.
+abbrev pub on-grid : Area → (n : ℕ) → Figures → Figures
+on-grid area n answer = cond (grid-accepted area) answer (refused (grid-refusal area) n)
+
+-- Natural numbers among integers, and figures so.
+unfoldable pub in-signs : List ℕ → List ℤ
+in-signs [] = []
+in-signs (n ∷ ns) = pos n ∷ in-signs ns
+
+abbrev pub signed : Figures → SignedFigures
+signed f = record { refusal = f .refusal; values = in-signs (f .values) }
+
+-- How far a place lies east or north of the origin, from the difference; for a negative one a number that is no area's x or y. It renders no sentence.
+abbrev pub distance-of : ℤ → ℕ
+distance-of (pos d) = d
+distance-of (negsuc d) = 4294967295

@@ -1,17 +1,28 @@
 // What every call shares: the area, whether it is accepted, and the refusals by name and number.
+ghost use mathlib.Core.Bool.{true};
 ghost use mathlib.Core.Path.{_≡_};
+ghost use Prim.Native.Nat.{_≤_};
+ghost use lib.IntN.{pos, _+ℤ_, _-ℤ_};
 ghost use Rattle.terms.specs.Terms.{length-accepted, accepted, area-refusal, refusal-number};
+ghost use Rattle.terms.specs.Terms.{longest-side, offset-accepted, origin-accepted, at-post, grid-accepted, grid-refusal, distance-of};
 
 // The longest width or height.
 const LONGEST_SIDE: u32 = 65535;
 
+// How far an origin may lie from the datum post, in x and in y.
+const WEST_MOST: i32 = -1000000;
+
+const EAST_MOST: i32 = 1000000;
+
 // The least number that has not 32 bits.
 pub const PAST_32_BITS: u64 = 4294967296;
 
-// An area's width and height.
+// An area's width and height, and its origin: where its first square lies on the site grid.
 pub struct Area {
     pub w: u32,
     pub h: u32,
+    pub ox: i32,
+    pub oy: i32,
 }
 
 // Why a call or a line is refused.
@@ -27,6 +38,7 @@ pub enum Refusal {
     TooDeep,
     CornersCrossed,
     NoRoom,
+    OriginLimit,
 }
 
 // Whether a width or a height is within the limit.
@@ -56,6 +68,78 @@ pub fn area_refusal(area: Area) -> Refusal
     Refusal::AreaLimit
 }
 
+// Whether the x or the y of an origin is within the range.
+fn is_offset(o: i32) -> bool
+    ensures { λ r. ⌜ r ≡ offset-accepted o ⌝ }
+{
+    if o < WEST_MOST {
+        return false;
+    }
+    o <= EAST_MOST
+}
+
+// Whether an origin is within the range.
+pub fn accepts_origin(ox: i32, oy: i32) -> bool
+    ensures { λ r. ⌜ r ≡ origin-accepted ox oy ⌝ }
+{
+    if is_offset(ox) {
+        return is_offset(oy);
+    }
+    false
+}
+
+// An area whose first square is the datum post's.
+pub fn at_post(w: u32, h: u32) -> Area
+    ensures { λ r. ⌜ r ≡ at-post w h ⌝ }
+{
+    Area {
+        w: w,
+        h: h,
+        ox: 0,
+        oy: 0,
+    }
+}
+
+// Whether an area may be asked about its squares: it is accepted, and its origin is within the range.
+pub fn accepts_grid(area: Area) -> bool
+    ensures { λ r. ⌜ r ≡ grid-accepted area ⌝ }
+{
+    if accepts(area) {
+        return accepts_origin(area.ox, area.oy);
+    }
+    false
+}
+
+// The refusal of an area that may not be asked about its squares. The origin is judged directly after the area.
+pub fn grid_refusal(area: Area) -> Refusal
+    ensures { λ r. ⌜ r ≡ grid-refusal area ⌝ }
+{
+    if accepts(area) {
+        return Refusal::OriginLimit;
+    }
+    area_refusal(area)
+}
+
+// A place on the site grid, so far east or north of the origin.
+pub fn shifted(o: i32, d: u32) -> i32
+    requires { ⌜ (offset-accepted o ≡ true) × (d ≤ longest-side) ⌝ }
+    ensures { λ r. ⌜ r ≡ o +ℤ pos d ⌝ }
+{
+    o + d as i32
+}
+
+// How far a place of the site grid lies east or north of the origin. One that lies before it is told as farther than any area reaches, so that one test
+// finds both. Two 32-bit numbers differ by up to 33 bits.
+pub fn distance(v: i32, o: i32) -> u32
+    ensures { λ r. ⌜ r ≡ distance-of (v -ℤ o) ⌝ }
+{
+    let d = v as i64 - o as i64;
+    if d < 0 {
+        return 4294967295;
+    }
+    d as u32
+}
+
 // The number of a refusal.
 pub fn refusal_number(r: Refusal) -> u32
     ensures { λ n. ⌜ n ≡ refusal-number r ⌝ }
@@ -72,5 +156,6 @@ pub fn refusal_number(r: Refusal) -> u32
         Refusal::TooDeep => 9,
         Refusal::CornersCrossed => 10,
         Refusal::NoRoom => 11,
+        Refusal::OriginLimit => 12,
     }
 }

@@ -1,24 +1,24 @@
--- What the call's functions come to: the refusals in their order, a window in its area as a pane of the whole block, the runs that the walks count and write,
--- and that refusal 9 never arises.
+-- What the call's functions come to, by the window's old corners: one that is granted lies in its area, and is a pane of the whole block; the runs that the
+-- walks count and write; and that refusal 9 never arises.
 use mathlib.Core.Bool.{Bool, true, false, _&&_, cond, and-false, and-eq-true-iff}
 use mathlib.Core.List.{List, [], _∷_}
 use mathlib.Core.Path.{_≡_, refl, sym, ap, subst, _∙_}
 use Prim.Native.Nat.{ℕ, _+_, _*_, _/_, _≤_, _<_}
 use native.Mathlib.Nat.{le-refl, mul-le-mul}
 use native.Mathlib.Omega.{arith}
-use borrow.Author.Tests.{le-leb, lt-leb, lt-ltb, le-ltb, leb-true, leb-false, ltb-true}
+use borrow.Author.Tests.{lt-ltb, le-ltb, leb-true, leb-false, ltb-true}
 use lib.Dec.{leb, ltb, eqb}
 use lib.ListN.{length}
 use Rattle.terms.specs.declared.Refusal.{Refusal}
 use Rattle.terms.specs.declared.Refusal.the-variants.{SquareOutside, CornersCrossed, NoRoom}
-use Rattle.terms.specs.Terms.{longest-side, most-blocks, accepted, area-refusal, Figures, answered, refused-with, refused}
-use Rattle.terms.proofs.Laws.{limits, refusal-not-0}
+use Rattle.terms.specs.Terms.{longest-side, most-blocks, accepted, area-refusal, Figures, answered, refused-with}
+use Rattle.terms.proofs.Laws.{limits}
 use Rattle.division.specs.Division.{whole, curve, blocks-holding, count}
 use Rattle.division.proofs.Blocks.{at-most-54}
 use Rattle.panes.specs.declared.Pane.{Pane}
 use Rattle.panes.specs.Panes.{pane-at, in-span, in-pane, Tally, tally, no-runs, runs-in, over, seen, Walks, Opens, Holds}
 use Rattle.panes.proofs.Parts.{curve-long}
-use Rattle.windows.specs.declared.Window.{Window}
+use Rattle.windows.specs.declared.Corners.{Corners}
 use Rattle.windows.specs.declared.Admission.{Admission}
 use Rattle.windows.specs.declared.Admission.the-variants.{Granted, Refused}
 use Rattle.windows.specs.Windows.{in-window, window-runs, uncrossed, corners-inside, admission, some-deep, with-room, as-admitted}
@@ -26,62 +26,28 @@ use Rattle.windows.specs.Windows.{runs-for-window, written, slice-after}
 use Rattle.windows.specs.Asking.{Lies, within-figures, within-slice}
 use Rattle.windows.proofs.Tallied.{counted-runs, written-runs}
 
--- the refusals, in their order
-module _ (w h : ℕ) (v : Window) where
-  pub area-refused : accepted w h ≡ false → Refused (area-refusal w h) ≡ admission w h v
-  area-refused bad = rw bad
-
-  module _ (ok : accepted w h ≡ true) where
-    pub crossed-x : v .x1 < v .x0 → Refused CornersCrossed ≡ admission w h v
-    crossed-x l = rw (ok, lt-leb (v .x0) (v .x1) l)
-
-    module _ (along : v .x0 ≤ v .x1) where
-      pub crossed-y : v .y1 < v .y0 → Refused CornersCrossed ≡ admission w h v
-      crossed-y l = rw (ok, le-leb (v .x0) (v .x1) along, lt-leb (v .y0) (v .y1) l)
-
-      module _ (across : v .y0 ≤ v .y1) where
-        outside : corners-inside w h v ≡ false → Refused SquareOutside ≡ admission w h v
-        outside e = rw (ok, le-leb (v .x0) (v .x1) along, le-leb (v .y0) (v .y1) across, e)
-
-        pub outside-x : w ≤ v .x1 → Refused SquareOutside ≡ admission w h v
-        outside-x l =
-            outside
-            (ap (λ b. (ltb (v .x0) w && ltb (v .y0) h) && (b && ltb (v .y1) h)) (le-ltb (v .x1) w l)
-            ∙ and-false (ltb (v .x0) w && ltb (v .y0) h))
-
-        pub outside-y : h ≤ v .y1 → Refused SquareOutside ≡ admission w h v
-        outside-y l =
-            outside
-            (ap (λ b. (ltb (v .x0) w && ltb (v .y0) h) && (ltb (v .x1) w && b)) (le-ltb (v .y1) h l)
-            ∙ ap (λ b. (ltb (v .x0) w && ltb (v .y0) h) && b) (and-false (ltb (v .x1) w))
-            ∙ and-false (ltb (v .x0) w && ltb (v .y0) h))
-
-        pub granted : v .x1 < w → v .y1 < h → Granted ≡ admission w h v
-        granted l m =
-            rw (
-              ok,
-              le-leb (v .x0) (v .x1) along,
-              le-leb (v .y0) (v .y1) across,
-              lt-ltb (v .x0) w (omega arith),
-              lt-ltb (v .y0) h (omega arith),
-              lt-ltb (v .x1) w l,
-              lt-ltb (v .y1) h m,
-            )
-
--- a window that is granted lies in its area
+-- what is granted has passed its three tests
 refusing : Admission → ℕ
 refusing Granted = 0
 refusing (Refused r) = 1
 
-lies-by : (w h : ℕ) (v : Window) (a b c : Bool) → accepted w h ≡ a → uncrossed v ≡ b → corners-inside w h v ≡ c → Granted ≡ admission w h v
-    → (accepted w h ≡ true) × Lies w h v
+pub all-passed : (a b c : Bool) (p q r : Refusal) → Granted ≡ cond a (cond b (cond c Granted (Refused p)) (Refused q)) (Refused r)
+    → (a ≡ true) × (b ≡ true) × (c ≡ true)
 unfolding refusing
-lies-by w h v true true true p q r e =
-    let all = limits w h p in
-    let order = and-eq-true-iff (leb (v .x0) (v .x1)) (leb (v .y0) (v .y1)) .0 q in
-    let corners = and-eq-true-iff (ltb (v .x0) w && ltb (v .y0) h) (ltb (v .x1) w && ltb (v .y1) h) .0 r in
+all-passed true true true p q r e = (refl, refl, refl)
+all-passed true true false p q r e = absurd (omega (arith, ap refusing e))
+all-passed true false c p q r e = absurd (omega (arith, ap refusing e))
+all-passed false b c p q r e = absurd (omega (arith, ap refusing e))
+
+-- so a window that is granted lies in its area
+pub granted-lies : (w h : ℕ) (v : Corners) → Granted ≡ admission w h v → (accepted w h ≡ true) × Lies w h v
+granted-lies w h v e =
+    let passed = all-passed (accepted w h) (uncrossed v) (corners-inside w h v) SquareOutside CornersCrossed (area-refusal w h) e in
+    let all = limits w h (passed .0) in
+    let order = and-eq-true-iff (leb (v .x0) (v .x1)) (leb (v .y0) (v .y1)) .0 (passed .1) in
+    let corners = and-eq-true-iff (ltb (v .x0) w && ltb (v .y0) h) (ltb (v .x1) w && ltb (v .y1) h) .0 (passed .2) in
     let far = and-eq-true-iff (ltb (v .x1) w) (ltb (v .y1) h) .0 (corners .1) in (
-      p,
+      passed .0,
       record {
         w-limit = all .w-most;
         h-limit = all .h-most;
@@ -91,18 +57,12 @@ lies-by w h v true true true p q r e =
         in-height = ltb-true (v .y1) h (far .1);
       },
     )
-lies-by w h v true true false p q r e = let other : refusing (admission w h v) ≡ 1 = rw (p, q, r) refl in absurd (omega (arith, ap refusing e))
-lies-by w h v true false c p q r e = let other : refusing (admission w h v) ≡ 1 = rw (p, q) refl in absurd (omega (arith, ap refusing e))
-lies-by w h v false b c p q r e = let other : refusing (admission w h v) ≡ 1 = rw p refl in absurd (omega (arith, ap refusing e))
-
-pub granted-lies : (w h : ℕ) (v : Window) → Granted ≡ admission w h v → (accepted w h ≡ true) × Lies w h v
-granted-lies w h v = lies-by w h v (accepted w h) (uncrossed v) (corners-inside w h v) refl refl refl
 
 -- the window as a pane of the whole block
-abbrev pub pane-of : (w h : ℕ) → Window → Pane
+abbrev pub pane-of : (w h : ℕ) → Corners → Pane
 pane-of w h v = pane-at w h (v .x0) (v .x1 + 1) (v .y0) (v .y1 + 1)
 
-module _ {w h : ℕ} {v : Window} (lies : Lies w h v) where
+module _ {w h : ℕ} {v : Corners} (lies : Lies w h v) where
   area-limit : w * h < no-runs
   area-limit = let most : w * h ≤ longest-side * longest-side = mul-le-mul (lies .w-limit) (lies .h-limit) in omega arith
 
@@ -140,11 +100,11 @@ up-to from to i = ap (λ b. leb from i && b) (by (leb i to) refl)
     by true e = let l = leb-true i to e in lt-ltb i (to + 1) (omega arith)
     by false e = let l = leb-false i to e in le-ltb i (to + 1) (omega arith)
 
-window-test : (w h : ℕ) (v : Window) → in-pane (pane-of w h v) ≡ in-window v
+window-test : (w h : ℕ) (v : Corners) → in-pane (pane-of w h v) ≡ in-window v
 unfolding in-pane in-window
 window-test w h v = λ i s. up-to (v .x0) (v .x1) (s .x) i && up-to (v .y0) (v .y1) (s .y) i
 
-module _ {w h : ℕ} {v : Window} (lies : Lies w h v) where
+module _ {w h : ℕ} {v : Corners} (lies : Lies w h v) where
   window-seen : (t : Tally) → seen (pane-of w h v) t 0 ≡ over (in-window v) t 0 (curve (whole w h))
   window-seen t = ap (λ test. over test t 0 (curve (whole w h))) (window-test w h v)
 
@@ -168,7 +128,7 @@ module _ {w h : ℕ} {v : Window} (lies : Lies w h v) where
       ∙ written-runs (in-window v) (curve (whole w h)) l (all-long lies) (omega arith)
 
 -- a window in its area, without room and with it
-module _ (w h : ℕ) (v : Window) (slice : List ℕ) {count : ℕ} (is : count ≡ length (window-runs w h v)) where
+module _ (w h : ℕ) (v : Corners) (slice : List ℕ) {count : ℕ} (is : count ≡ length (window-runs w h v)) where
   pub short-told : length slice / 2 < count
       → (refused-with NoRoom (count ∷ []) ≡ within-figures w h v slice) × (slice ≡ within-slice w h v slice)
   short-told l =
@@ -187,7 +147,7 @@ unfolding count
 none-counted f [] h = refl
 none-counted f (z ∷ zs) h = rw (h z) (ap (λ n. 0 + n) (none-counted f zs h))
 
-pub not-deep : (w h : ℕ) (v : Window) → accepted w h ≡ true → some-deep w h v ≡ false
+pub not-deep : (w h : ℕ) (v : Corners) → accepted w h ≡ true → some-deep w h v ≡ false
 unfolding some-deep
 not-deep w h v ok =
     let all = limits w h ok in
@@ -201,15 +161,8 @@ not-deep w h v ok =
     rw none
 
 -- the whole call
-module _ (w h : ℕ) (v : Window) (slice : List ℕ) where
-  pub refused-told : (r : Refusal) → Refused r ≡ admission w h v → (refused r 1 ≡ runs-for-window w h v slice) × (slice ≡ slice-after w h v slice)
-  unfolding runs-for-window slice-after
-  refused-told r e =
-      let is : refused r 1 ≡ runs-for-window w h v slice =
-      ap (λ j. as-admitted j (with-room (length slice) (length (window-runs w h v)) (some-deep w h v))) e in
-      (is, sym (ap (λ f. cond (eqb (f .refusal) 0) (written (window-runs w h v) slice) slice) (sym is) ∙ rw (refusal-not-0 r) refl))
-
-  pub granted-figures : Granted ≡ admission w h v → runs-for-window w h v slice ≡ within-figures w h v slice
+module _ (w h : ℕ) (v : Corners) (slice : List ℕ) where
+  granted-figures : Granted ≡ admission w h v → runs-for-window w h v slice ≡ within-figures w h v slice
   unfolding runs-for-window
   granted-figures e =
       ap (λ j. as-admitted j (with-room (length slice) (length (window-runs w h v)) (some-deep w h v))) (sym e)

@@ -1,4 +1,5 @@
 pub mod Letters
 pub mod Words
+pub mod Signed
 pub mod Decimal
 pub mod Worked

@@ -1,20 +1,30 @@
-// What a field of a line holds: a word, or a number.
+// What a field of a line holds: a word, or a number, with a sign or without.
 ghost use mathlib.Core.Bool.{cond, _&&_};
 ghost use mathlib.Core.Path.{_≡_};
 ghost use Prim.Native.Nat.{_≤_};
 ghost use lib.Dec.{leb};
-ghost use lib.ListN.{length};
+ghost use lib.ListN.{length, drop};
 ghost use Rattle.terms.specs.Terms.{past-32-bits};
 ghost use Rattle.words.specs.Words.{all-digits, may-begin, value, numeral, numeral-figures, Spells, same-bytes, begins};
+ghost use Rattle.words.specs.Signed.{upwards, downwards, signed-numeral, signed-numeral-figures, SpellsSigned};
 
 // How many digits a number may have, as many as a padded one has, and the largest number.
 const MOST_DIGITS: usize = 10;
 
 const LARGEST: u64 = 4294967295;
 
+// How large a number may be, either way, where it may carry a minus.
+const LARGEST_MAGNITUDE: u32 = 2147483647;
+
 // A field read as a number.
 pub enum Numeral {
     Value(u32),
+    NoNumber,
+}
+
+// A field read as a number that may carry a minus.
+pub enum SignedNumeral {
+    Value(i32),
     NoNumber,
 }
 
@@ -69,6 +79,61 @@ pub fn numeral_of(s: &[u8]) -> Numeral
         return Numeral::NoNumber;
     }
     Numeral::Value(v as u32)
+}
+
+// A number without a minus, as a signed one.
+fn above_zero(n: Numeral) -> SignedNumeral
+    ensures { λ r. ⌜ r ≡ upwards n ⌝ }
+{
+    match n {
+        Numeral::Value(v) => {
+            if LARGEST_MAGNITUDE < v {
+                return SignedNumeral::NoNumber;
+            }
+            SignedNumeral::Value(v as i32)
+        }
+        Numeral::NoNumber => SignedNumeral::NoNumber,
+    }
+}
+
+// A number behind a minus, as a signed one. There is no -0.
+fn below_zero(n: Numeral) -> SignedNumeral
+    ensures { λ r. ⌜ r ≡ downwards n ⌝ }
+{
+    match n {
+        Numeral::Value(v) => {
+            if v < 1 {
+                return SignedNumeral::NoNumber;
+            }
+            if LARGEST_MAGNITUDE < v {
+                return SignedNumeral::NoNumber;
+            }
+            SignedNumeral::Value(0 - v as i32)
+        }
+        Numeral::NoNumber => SignedNumeral::NoNumber,
+    }
+}
+
+// What stands behind a field's first byte.
+fn behind_first<'a>(s: &'a [u8]) -> &'a [u8]
+    requires { ⌜ 1 ≤ length (now s) ⌝ }
+    ensures { λ r. ⌜ now r ≡ drop 1 (now (s .entry)) ⌝ }
+{
+    &s[1..]
+}
+
+// A field's number where it may carry a minus: at most 2,147,483,647 either way.
+pub fn signed_numeral_of(s: &[u8]) -> SignedNumeral
+    ensures figures { λ r. ⌜ signed-numeral-figures r ≡ signed-numeral-figures (signed-numeral (now (s .entry))) ⌝ }
+    ensures spelling { λ r. ⌜ SpellsSigned (now (s .entry)) r ⌝ }
+{
+    if s.len() < 1 {
+        return SignedNumeral::NoNumber;
+    }
+    if s[0] == b'-' {
+        return below_zero(numeral_of(behind_first(s)));
+    }
+    above_zero(numeral_of(s))
 }
 
 // Whether a field is a word.

@@ -1,51 +1,82 @@
--- `curve::square_to_number` meets its contract: each refusal in its order, then what the search found.
+-- `curve::square_to_number` meets its contract: each refusal in its order, then what the search found at the distances from the origin.
 use borrow.Author.Needs.{needs}
 use mathlib.Core.Path.{_∙_}
-use Rattle.terms.proofs.Laws.{is-accepted, is-refused}
-use Rattle.curve.proofs.Answers.{searches, number-found, x-outside, y-outside, number-limit}
+use Rattle.terms.proofs.Laws.{is-on-grid, is-off-grid, grid-passed}
+use Rattle.terms.proofs.Signs.{kept}
+use Rattle.curve.proofs.Answers.{searches, number-found, x-outside, y-outside}
+use Rattle.curve.proofs.OnGrid.{number-off, number-on, distance-kept}
 use Rattle.curve.proofs.square_to_number.Statement.{statement}
 use Rattle.curve.proofs.square_to_number.Tie as tie
 
 returns : tie.Need-returns
 returns c =
-    let start = c .before .before .before in
-    let bad = is-refused _ _ (c .before .before .accepts .ensures) (c .before .if1 .taken) in
-    number-limit (start .args .area .w) (start .args .area .h) bad (c .area-refusal .result) (c .area-refusal .ensures) (start .args .x) (start .args .y)
+    let judged = c .before .before in
+    let start = judged .before in
+    let area = start .args .area in
+    let bad = is-off-grid area (judged .accepts-grid .ensures) (c .before .if1 .taken) in
+    number-off area bad (c .grid-refusal .result) (c .grid-refusal .ensures) (start .args .x) (start .args .y)
 
 returns-2 : tie.Need-returns-2
 returns-2 c =
-    let start = c .before .before .before in
-    let ok = is-accepted _ _ (c .before .before .accepts .ensures) (c .before .if1 .left) in
-    x-outside (start .args .area .w) (start .args .area .h) ok (start .args .x) (start .args .y) (c .if2 .taken)
+    let far-y = c .before in
+    let far-x = far-y .before .before in
+    let tested = far-x .before .before in
+    let start = tested .before .before in
+    let area = start .args .area in
+    let x-is = kept {z = area .ox} (record { sfits = far-x .before .struct-told .given .1 .1 .0 .1 }) in
+    let y-is = kept {z = area .oy} (record { sfits = far-y .before .struct-told2 .given .1 .1 .1 .0 .1 }) in
+    let ok = is-on-grid area (tested .before .accepts-grid .ensures) (tested .if1 .left) in
+    number-on area ok (start .args .x) (start .args .y) (distance-kept (start .fits .x) x-is (far-x .distance .ensures))
+    (distance-kept (start .fits .y) y-is (far-y .distance2 .ensures))
+    (x-outside (area .w) (area .h) (grid-passed area ok .0) (far-x .distance .result) (far-y .distance2 .result) (c .if2 .taken))
 
 returns-3 : tie.Need-returns-3
 returns-3 c =
     let in-width = c .before in
-    let start = in-width .before .before .before in
-    let ok = is-accepted _ _ (in-width .before .before .accepts .ensures) (in-width .before .if1 .left) in
-    y-outside (start .args .area .w) (start .args .area .h) ok (start .args .x) (start .args .y) (in-width .if2 .left) (c .if3 .taken)
+    let far-y = in-width .before in
+    let far-x = far-y .before .before in
+    let tested = far-x .before .before in
+    let start = tested .before .before in
+    let area = start .args .area in
+    let x-is = kept {z = area .ox} (record { sfits = far-x .before .struct-told .given .1 .1 .0 .1 }) in
+    let y-is = kept {z = area .oy} (record { sfits = far-y .before .struct-told2 .given .1 .1 .1 .0 .1 }) in
+    let ok = is-on-grid area (tested .before .accepts-grid .ensures) (tested .if1 .left) in
+    number-on area ok (start .args .x) (start .args .y) (distance-kept (start .fits .x) x-is (far-x .distance .ensures))
+    (distance-kept (start .fits .y) y-is (far-y .distance2 .ensures))
+    (y-outside (area .w) (area .h) (grid-passed area ok .0) (far-x .distance .result) (far-y .distance2 .result) (in-width .if2 .left) (c .if3 .taken))
 
 number-at-requires : tie.Need-number-at-requires
 number-at-requires c κs =
     let in-width = c .before in
-    let start = in-width .before .before .before in
-    let ok = is-accepted _ _ (in-width .before .before .accepts .ensures) (in-width .before .if1 .left) in
-    searches (start .args .area .w) (start .args .area .h) ok (start .args .x) (start .args .y) (in-width .if2 .left) (c .if3 .left)
+    let far-y = in-width .before in
+    let far-x = far-y .before .before in
+    let tested = far-x .before .before in
+    let area = tested .before .before .args .area in
+    let ok = is-on-grid area (tested .before .accepts-grid .ensures) (tested .if1 .left) in
+    searches (area .w) (area .h) (grid-passed area ok .0) (far-x .distance .result) (far-y .distance2 .result) (in-width .if2 .left) (c .if3 .left)
 
 returns-4 : tie.Need-returns-4
 returns-4 c =
-    let third-test = c .before .before in
-    let in-width = third-test .before in
-    let first-test = in-width .before in
-    let accepts = first-test .before in
-    let start = accepts .before in
+    let in-height = c .before .before in
+    let in-width = in-height .before in
+    let far-y = in-width .before in
+    let far-x = far-y .before .before in
+    let tested = far-x .before .before in
+    let start = tested .before .before in
     let area = start .args .area in
-    let ok = is-accepted _ _ (accepts .accepts .ensures) (first-test .if1 .left) in
-    c .number-unless-deep .ensures
-    ∙ number-found (area .w) (area .h) ok (start .args .x) (start .args .y) (in-width .if2 .left) (third-test .if3 .left) (c .before .number-at .result)
-    (c .before .number-at .ensures)
+    let x-is = kept {z = area .ox} (record { sfits = far-x .before .struct-told .given .1 .1 .0 .1 }) in
+    let y-is = kept {z = area .oy} (record { sfits = far-y .before .struct-told2 .given .1 .1 .1 .0 .1 }) in
+    let ok = is-on-grid area (tested .before .accepts-grid .ensures) (tested .if1 .left) in
+    number-on area ok (start .args .x) (start .args .y) (distance-kept (start .fits .x) x-is (far-x .distance .ensures))
+    (distance-kept (start .fits .y) y-is (far-y .distance2 .ensures))
+    (c .number-unless-deep .ensures
+    ∙ number-found (area .w) (area .h) (grid-passed area ok .0) (far-x .distance .result) (far-y .distance2 .result) (in-width .if2 .left)
+    (in-height .if3 .left)
+    (c .before .number-at .result)
+    (c .before .number-at .ensures))
 
 pub square-to-number-spec : {M : Type 1} → statement M
 square-to-number-spec =
     tie.close
-    (tie.spec (λ c κs. search needs) (λ c κs. search needs) returns returns-2 returns-3 number-at-requires (λ c κs. search needs) returns-4)
+    (tie.spec (λ c κs. search needs) (λ c κs. search needs) returns (λ c κs. search needs) (λ c κs. search needs) returns-2 returns-3 number-at-requires
+    (λ c κs. search needs) returns-4)

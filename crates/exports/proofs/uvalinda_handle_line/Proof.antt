@@ -1,24 +1,29 @@
 -- `exports::uvalinda_handle_line` meets its contract: the clerk's reply and the area after it, told.
 use borrow.Author.Needs.{needs}
+use mathlib.Core.Path.{ap, _∙_}
+use Rattle.clerk.specs.Clerk.{clerk-under}
 use Rattle.exports.specs.Handling.{handled}
-use Rattle.exports.proofs.Values.{short, answer, handled-as}
+use Rattle.exports.proofs.Values.{kept-area, short, answer, handled-as}
 use Rattle.exports.proofs.uvalinda_handle_line.Statement.{statement}
 use Rattle.exports.proofs.uvalinda_handle_line.Tie as tie
 
 returns : tie.Need-returns
 returns c =
-    let start = c .before .before .before .args in
-    short 6 (handled (start .w) (start .h) (start .line .now)) (start .result .now) (c .if1 .taken)
+    let asked = c .before .before .args in
+    short 8 (handled (asked .w) (asked .h) (asked .ox) (asked .oy) (asked .line .now)) (asked .result .now) (c .if1 .taken)
 
 returns-2 : tie.Need-returns-2
 returns-2 c =
-    let area = c .before .before .before .before in
+    let told = c .before in
+    let area = told .before .before in
     let handled-line = area .before in
     let begun = handled-line .before in
     let tested = begun .before in
-    let start = tested .before .before .before .args in
-    let due = handled-as (start .line .now) (begun .clerk-under .ensures) (handled-line .handle .ensures) (area .area-in-force .ensures) in
-    answer 6 (start .result .now) (tested .if1 .left) due (c .before .before .tell-reply .ensures)
+    let start = tested .before .before in
+    let asked = start .args in
+    let under = begun .clerk-under .ensures ∙ ap clerk-under (kept-area (asked .w) (asked .h) (start .fits .ox) (start .fits .oy)) in
+    let due = handled-as (asked .line .now) under (handled-line .handle .ensures) (area .area-in-force .ensures) in
+    answer 8 (asked .result .now) (tested .if1 .left) due (told .tell-reply .ensures)
 
 pub uvalinda-handle-line-spec : {M : Type 1} → statement M
 uvalinda-handle-line-spec =

@@ -1,30 +1,34 @@
 -- `exports::uvalinda_runs_for_window` meets its contract: what the call leaves and answers, told.
-use Rattle.windows.specs.Windows.{runs-for-window, slice-after}
-use Rattle.exports.specs.Boundary.{window-at}
-use Rattle.exports.proofs.Values.{lent-short, lent-told}
 use borrow.Author.Needs.{needs}
+use mathlib.Core.Path.{ap₂, _∙_}
+use Rattle.windows.specs.Grid.{runs-for-window-at, slice-after-at}
+use Rattle.exports.specs.Boundary.{area-at, window-at}
+use Rattle.exports.proofs.Values.{kept-area, kept-window, lent-short, lent-told}
 use Rattle.exports.proofs.uvalinda_runs_for_window.Statement.{statement}
 use Rattle.exports.proofs.uvalinda_runs_for_window.Tie as tie
 
 returns : tie.Need-returns
 returns c =
-    let start = c .before .before .before in
-    let asked = start .args in
+    let asked = c .before .before .before .args in
+    let area = area-at (asked .w) (asked .h) (asked .ox) (asked .oy) in
     let v = window-at (asked .x0) (asked .y0) (asked .x1) (asked .y1) in
-    lent-short (runs-for-window (asked .w) (asked .h) v (asked .runs .now)) (slice-after (asked .w) (asked .h) v (asked .runs .now)) (asked .runs .now)
-    (asked .result .now) (c .if1 .taken)
+    lent-short (runs-for-window-at area v (asked .runs .now)) (slice-after-at area v (asked .runs .now)) (asked .runs .now) (asked .result .now) (c .if1 .taken)
 
 returns-2 : tie.Need-returns-2
 returns-2 c =
-    let at-tell-runs = c .before .before in
-    let at-runs-for-window = at-tell-runs .before .before .before .before in
-    let at-if1 = at-runs-for-window .before .before in
-    let start = at-if1 .before .before .before in
+    let told = c .before .before in
+    let call = told .before .before .before .before in
+    let tested = call .before .before in
+    let start = tested .before .before .before in
     let asked = start .args in
+    let area = area-at (asked .w) (asked .h) (asked .ox) (asked .oy) in
     let v = window-at (asked .x0) (asked .y0) (asked .x1) (asked .y1) in
-    let found = at-runs-for-window .runs-for-window .ensures in
-    lent-told (runs-for-window (asked .w) (asked .h) v (asked .runs .now)) (slice-after (asked .w) (asked .h) v (asked .runs .now)) (asked .runs .now)
-    (asked .result .now) (at-if1 .if1 .left) (found .0) _ (found .1) (at-tell-runs .tell-runs .ensures)
+    let area-is = kept-area (asked .w) (asked .h) (start .fits .ox) (start .fits .oy) in
+    let window-is = kept-window (start .fits .x0) (start .fits .y0) (start .fits .x1) (start .fits .y1) in
+    let found = call .runs-for-window .ensures in
+    lent-told (runs-for-window-at area v (asked .runs .now)) (slice-after-at area v (asked .runs .now)) (asked .runs .now) (asked .result .now)
+    (tested .if1 .left) (found .0 ∙ ap₂ (λ area v. runs-for-window-at area v (asked .runs .now)) area-is window-is) _
+    (found .1 ∙ ap₂ (λ area v. slice-after-at area v (asked .runs .now)) area-is window-is) (told .tell-runs .ensures)
 
 pub uvalinda-runs-for-window-spec : {M : Type 1} → statement M
 uvalinda-runs-for-window-spec =

@@ -1,8 +1,7 @@
 -- `clerk::Clerk::handle` meets its contract: reply and clerk are composed from the request.
 use borrow.Author.Needs.{needs}
 use mathlib.Core.Path.{refl, ap, _∙_}
-use Rattle.words.specs.Words.{begins}
-use Rattle.lines.specs.Lines.{AREA, request}
+use Rattle.lines.specs.Lines.{begins-setting, request}
 use Rattle.lines.proofs.Promises.{request-one}
 use Rattle.clerk.specs.Clerk.{reply-to, clerk-after, after, reply}
 use Rattle.clerk.proofs.Clerk.handle.Statement.{statement}
@@ -14,7 +13,7 @@ returns c =
     let start = c .before .before .before .before .args in
     let line = start .line .now in
     let asked = request-one (c .before .before .request-of .result) (request line) (c .before .before .request-of .ensures .0) refl in
-    (c .clerk-after .ensures ∙ ap (clerk-after (start .self) (begins line AREA)) asked, c .before .reply-to .ensures ∙ ap (reply-to (start .self)) asked)
+    (c .clerk-after .ensures ∙ ap (clerk-after (start .self) (begins-setting line)) asked, c .before .reply-to .ensures ∙ ap (reply-to (start .self)) asked)
 
 pub handle-spec : {M : Type 1} → statement M
 handle-spec =

@@ -1,4 +1,4 @@
--- `lines::requests::three_fields` meets its contract.
+-- `lines::requests::three_fields` meets its contract: the words are tried one after the other.
 use borrow.Author.Needs.{needs}
 use mathlib.Core.Path.{sym, _∙_}
 use Rattle.lines.proofs.requests.three_fields.Statement.{statement}
@@ -9,20 +9,33 @@ returns c = c .with-two .ensures ∙ sym (rw (sym (c .before .before .is-word .e
 
 returns-2 : tie.Need-returns-2
 returns-2 c =
-    let first = c .before .before .before .before in
+    let second = c .before in
+    let first = second .before .before .before in
     let not-area = sym (first .before .is-word .ensures) ∙ first .if1 .left in
-    let is-s = sym (c .before .before .is-word2 .ensures) ∙ c .before .if2 .taken in
-    c .with-two2 .ensures ∙ sym (rw (not-area, is-s))
+    let is-origin = sym (second .before .is-word2 .ensures) ∙ second .if2 .taken in
+    c .with-two-signed .ensures ∙ sym (rw (not-area, is-origin))
 
 returns-3 : tie.Need-returns-3
 returns-3 c =
-    let first = c .before .before .before in
+    let third = c .before in
+    let second = third .before .before .before in
+    let first = second .before .before .before in
     let not-area = sym (first .before .is-word .ensures) ∙ first .if1 .left in
-    let not-s = sym (c .before .is-word2 .ensures) ∙ c .if2 .left in
-    sym (rw (not-area, not-s))
+    let not-origin = sym (second .before .is-word2 .ensures) ∙ second .if2 .left in
+    let is-s = sym (third .before .is-word3 .ensures) ∙ third .if3 .taken in
+    c .with-two-signed2 .ensures ∙ sym (rw (not-area, not-origin, is-s))
+
+returns-4 : tie.Need-returns-4
+returns-4 c =
+    let second = c .before .before .before in
+    let first = second .before .before .before in
+    let not-area = sym (first .before .is-word .ensures) ∙ first .if1 .left in
+    let not-origin = sym (second .before .is-word2 .ensures) ∙ second .if2 .left in
+    let not-s = sym (c .before .is-word3 .ensures) ∙ c .if3 .left in
+    sym (rw (not-area, not-origin, not-s))
 
 pub three-fields-spec : {M : Type 1} → statement M
 three-fields-spec =
     tie.close
     (tie.spec (λ c. search needs) (λ c κs. search needs) (λ c κs. search needs) returns (λ c. search needs) (λ c κs. search needs)
-    (λ c κs. search needs) returns-2 returns-3)
+    (λ c κs. search needs) returns-2 (λ c. search needs) (λ c κs. search needs) (λ c κs. search needs) returns-3 returns-4)
