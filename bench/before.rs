@@ -1,16 +1,18 @@
 // The library of another commit and the one at hand, side by side in one process on the same inputs: the least time of many short rounds, of which a busy
-// machine disturbs few. Only for commits whose calls take and write the same; where they answer otherwise, the row is left to the reader of the change.
+// machine disturbs few. A library from before areas had an origin is asked for the squares from (0, 0) on, the one at hand for those from its origin on.
+// Where they answer otherwise, the row is left to the reader of the change.
 #[path = "../tests/random.rs"]
 mod random;
 mod common;
 
-#[path = "."]
 mod before {
     #[allow(dead_code)] // not every call is compared
     mod raw {
         include!(env!("BEFORE"));
     }
-    mod library;
+    mod library {
+        include!(env!("BEFORE_CALLS"));
+    }
     pub use library::*;
 }
 
@@ -37,36 +39,55 @@ fn row(area: &str, call: &str, (before, after): (f64, f64)) {
 }
 
 // A call over each of the inputs in turn, 400 times.
-fn calls<I: Copy, A>(area: &str, call: &str, inputs: &[I], mut before: impl FnMut(I) -> A, mut after: impl FnMut(I) -> A) {
-    let n = inputs.len();
+fn calls<I: Copy, A>(area: &str, call: &str, inputs: (&[I], &[I]), mut before: impl FnMut(I) -> A, mut after: impl FnMut(I) -> A) {
+    let n = inputs.0.len();
     let times = least(
         400,
-        || time(n, || inputs.iter().for_each(|&i| _ = black_box(before(black_box(i))))),
-        || time(n, || inputs.iter().for_each(|&i| _ = black_box(after(black_box(i))))),
+        || time(n, || inputs.0.iter().for_each(|&i| _ = black_box(before(black_box(i))))),
+        || time(n, || inputs.1.iter().for_each(|&i| _ = black_box(after(black_box(i))))),
     );
     row(area, call, times);
 }
 
 fn lookups(random: &mut Random) {
+    let ((bx, by), (ax, ay)) = (before::ORIGIN, after::ORIGIN);
     for (w, h) in [(64, 64), (1024, 1024), (4096, 4096), (3000, 5000)] {
         let area = format!("{w} by {h}");
         let numbers: Vec<u32> = (0..8000).map(|_| random.below(w as u64 * h as u64) as u32).collect();
-        calls(&area, "number to square", &numbers, |n| before::number_to_square(w, h, n), |n| after::number_to_square(w, h, n));
-        let squares: Vec<(u32, u32)> = (0..8000).map(|_| (random.below(w as u64) as u32, random.below(h as u64) as u32)).collect();
-        calls(&area, "square to number", &squares, |(x, y)| before::square_to_number(w, h, x, y), |(x, y)| after::square_to_number(w, h, x, y));
+        let (one, other) = (|n| before::number_to_square(w, h, bx, by, n), |n| after::number_to_square(w, h, ax, ay, n));
+        calls(&area, "number to square", (&numbers, &numbers), one, other);
+        let squares: Vec<(i32, i32)> = (0..8000).map(|_| (random.below(w as u64) as i32, random.below(h as u64) as i32)).collect();
+        let from = |ox: i32, oy: i32| -> Vec<(i32, i32)> { squares.iter().map(|(x, y)| (ox + x, oy + y)).collect() };
+        let (one, other) = (|(x, y)| before::square_to_number(w, h, bx, by, x, y), |(x, y)| after::square_to_number(w, h, ax, ay, x, y));
+        calls(&area, "square to number", (&from(bx, by), &from(ax, ay)), one, other);
     }
     let areas: Vec<(u32, u32)> = (0..8000).map(|_| (random.below(70000) as u32, random.below(70000) as u32)).collect();
-    calls("random", "finish square", &areas, |(w, h)| before::finish_square(w, h), |(w, h)| after::finish_square(w, h));
+    let (one, other) = (|(w, h)| before::finish_square(w, h, bx, by), |(w, h)| after::finish_square(w, h, ax, ay));
+    calls("random", "finish square", (&areas, &areas), one, other);
+}
+
+// Random lines that both answer alike, each under the area that the ones before it left. What only one of them knows is left out.
+fn lines_alike(n: usize) -> Vec<Vec<u8>> {
+    let mut lines = Lines::from(1);
+    let (mut one, mut other) = (None, None);
+    let mut alike = vec![];
+    while alike.len() < n {
+        let (line, left) = (lines.next(), (one, other));
+        if before::handle_line(&mut one, &line) == after::handle_line(&mut other, &line) {
+            alike.push(line);
+        } else {
+            (one, other) = left;
+        }
+    }
+    alike
 }
 
 fn lines(random: &mut Random) {
-    let form = form(random, 8000);
-    let mut lines = Lines::from(1);
-    let mixed: Vec<Vec<u8>> = (0..8000).map(|_| lines.next()).collect();
-    for (area, call, lines) in [("4096 by 4096", "lines of a form", form), ("random", "random lines", mixed)] {
+    let form = form(random, 8000, before::ORIGIN);
+    for (area, call, lines) in [("4096 by 4096", "lines of a form", form), ("random", "random lines", lines_alike(8000))] {
         let lines: Vec<&[u8]> = lines.iter().map(|line| &line[..]).collect();
         let (mut one, mut other) = (None, None);
-        calls(area, call, &lines, |line| before::handle_line(&mut one, line), |line| after::handle_line(&mut other, line));
+        calls(area, call, (&lines, &lines), |line| before::handle_line(&mut one, line), |line| after::handle_line(&mut other, line));
     }
 }
 

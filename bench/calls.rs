@@ -41,20 +41,22 @@ fn row(area: &str, call: &str, (library, rust): (f64, f64)) {
 fn lookups(random: &mut Random) {
     println!("### Lookups and lines\n\nNanoseconds a call, the least of nine rounds over a million random inputs, or over 200,000 lines.\n");
     println!("| area | call | library | Rust | ratio |\n|---|---|---|---|---|");
+    let (ox, oy) = black_box(ORIGIN);
     for (w, h) in [(64, 64), (256, 256), (1024, 1024), (4096, 4096), (16384, 16384), (65535, 65535), (3000, 5000)] {
         let area = format!("{w} by {h}");
         let numbers: Vec<u32> = (0..1_000_000).map(|_| random.below(w as u64 * h as u64) as u32).collect();
-        row(&area, "number to square", least(&numbers, |n| number_to_square(w, h, n), |n| versions::number_to_square(w, h, n)));
-        let squares: Vec<(u32, u32)> = (0..1_000_000).map(|_| (random.below(w as u64) as u32, random.below(h as u64) as u32)).collect();
-        row(&area, "square to number", least(&squares, |(x, y)| square_to_number(w, h, x, y), |(x, y)| versions::square_to_number(w, h, x, y)));
+        row(&area, "number to square", least(&numbers, |n| number_to_square(w, h, ox, oy, n), |n| versions::number_to_square(w, h, ox, oy, n)));
+        let squares: Vec<(i32, i32)> = (0..1_000_000).map(|_| (ox + random.below(w as u64) as i32, oy + random.below(h as u64) as i32)).collect();
+        let times = least(&squares, |(x, y)| square_to_number(w, h, ox, oy, x, y), |(x, y)| versions::square_to_number(w, h, ox, oy, x, y));
+        row(&area, "square to number", times);
     }
     let areas: Vec<(u32, u32)> = (0..1_000_000).map(|_| (random.below(70000) as u32, random.below(70000) as u32)).collect();
-    row("random", "finish square", least(&areas, |(w, h)| finish_square(w, h), |(w, h)| versions::finish_square(w, h)));
+    row("random", "finish square", least(&areas, |(w, h)| finish_square(w, h, ox, oy), |(w, h)| versions::finish_square(w, h, ox, oy)));
 }
 
 // Lines of a form, and random lines of which many are refused, each under the area that the line before it left.
 fn lines(random: &mut Random) {
-    let form = form(random, 200_000);
+    let form = form(random, 200_000, ORIGIN);
     let mut lines = Lines::from(1);
     let mixed: Vec<Vec<u8>> = (0..200_000).map(|_| lines.next()).collect();
     for (area, call, lines) in [("4096 by 4096", "lines of a form", form), ("random", "random lines, half of them refused", mixed)] {

@@ -1,26 +1,30 @@
 // The library's calls, as the benchmarks make them: over the module `raw` that stands beside this one, so that two versions of the library can be called.
 use super::raw;
+use crate::common::Area;
+
+// The origin of the areas that are timed.
+pub const ORIGIN: (i32, i32) = (-2000, 31);
 
 // SAFETY, here and below: each slice is passed with its own length, and no two of them overlap.
-pub fn number_to_square(w: u32, h: u32, number: u32) -> Result<(u32, u32, u32), u32> {
+pub fn number_to_square(w: u32, h: u32, ox: i32, oy: i32, number: u32) -> Result<(i32, i32, u32), u32> {
     let mut result = [0; 3];
-    match unsafe { raw::uvalinda_number_to_square(w, h, number, result.as_mut_ptr(), result.len()) } {
-        0 => Ok((result[0], result[1], result[2])),
+    match unsafe { raw::uvalinda_number_to_square(w, h, ox, oy, number, result.as_mut_ptr(), result.len()) } {
+        0 => Ok((result[0], result[1], result[2] as u32)),
         refusal => Err(refusal),
     }
 }
 
-pub fn square_to_number(w: u32, h: u32, x: u32, y: u32) -> Result<(u32, u32), u32> {
+pub fn square_to_number(w: u32, h: u32, ox: i32, oy: i32, x: i32, y: i32) -> Result<(u32, u32), u32> {
     let mut result = [0; 2];
-    match unsafe { raw::uvalinda_square_to_number(w, h, x, y, result.as_mut_ptr(), result.len()) } {
+    match unsafe { raw::uvalinda_square_to_number(w, h, ox, oy, x, y, result.as_mut_ptr(), result.len()) } {
         0 => Ok((result[0], result[1])),
         refusal => Err(refusal),
     }
 }
 
-pub fn finish_square(w: u32, h: u32) -> Result<(u32, u32), u32> {
+pub fn finish_square(w: u32, h: u32, ox: i32, oy: i32) -> Result<(i32, i32), u32> {
     let mut result = [0; 2];
-    match unsafe { raw::uvalinda_finish_square(w, h, result.as_mut_ptr(), result.len()) } {
+    match unsafe { raw::uvalinda_finish_square(w, h, ox, oy, result.as_mut_ptr(), result.len()) } {
         0 => Ok((result[0], result[1])),
         refusal => Err(refusal),
     }
@@ -44,13 +48,15 @@ pub fn check(w: u32, h: u32, table: &[u32], by_square: bool) -> Result<Option<(u
     }
 }
 
-pub fn handle_line(area: &mut Option<(u32, u32)>, line: &[u8]) -> Result<[u32; 4], u32> {
-    let (w, h) = area.unwrap_or((0, 0));
-    let mut now = [0; 6];
-    let refusal = unsafe { raw::uvalinda_handle_line(w, h, line.as_ptr(), line.len(), now.as_mut_ptr(), now.len()) };
-    *area = (now[0] != 0).then_some((now[0], now[1]));
+// The reply's kind and numbers; the area in force is altered as the line says.
+pub fn handle_line(area: &mut Option<Area>, line: &[u8]) -> Result<[i64; 4], u32> {
+    let Area { w, h, ox, oy } = area.unwrap_or(Area { w: 0, h: 0, ox: 0, oy: 0 });
+    let mut now = [0; 8];
+    let refusal = unsafe { raw::uvalinda_handle_line(w, h, ox, oy, line.as_ptr(), line.len(), now.as_mut_ptr(), now.len()) };
+    let [w, h, ox, oy, reply @ ..] = now;
+    *area = (w != 0).then_some(Area { w: w as u32, h: h as u32, ox: ox as i32, oy: oy as i32 });
     match refusal {
-        0 => Ok([now[2], now[3], now[4], now[5]]),
+        0 => Ok(reply),
         refusal => Err(refusal),
     }
 }

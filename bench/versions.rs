@@ -1,7 +1,17 @@
 // The same algorithms in plain, safe Rust, to measure the library against. They are not inlined into the measurement, as a call into a library is not.
+use crate::common::Area;
 
 fn accepted(w: u32, h: u32) -> bool {
     (1..=65535).contains(&w) && (1..=65535).contains(&h)
+}
+
+fn granted(w: u32, h: u32, ox: i32, oy: i32) -> Result<(), u32> {
+    let in_range = |c: i32| (-1_000_000..=1_000_000).contains(&c);
+    match () {
+        _ if !accepted(w, h) => Err(1),
+        _ if !in_range(ox) || !in_range(oy) => Err(12),
+        _ => Ok(()),
+    }
 }
 
 fn even_half(length: u32) -> u32 {
@@ -10,14 +20,12 @@ fn even_half(length: u32) -> u32 {
 }
 
 #[inline(never)]
-pub fn number_to_square(w: u32, h: u32, number: u32) -> Result<(u32, u32, u32), u32> {
-    if !accepted(w, h) {
-        return Err(1);
-    }
+pub fn number_to_square(w: u32, h: u32, ox: i32, oy: i32, number: u32) -> Result<(i32, i32, u32), u32> {
+    granted(w, h, ox, oy)?;
     if number >= w * h {
         return Err(3);
     }
-    let (mut x, mut y) = (0i32, 0i32);
+    let (mut x, mut y) = (ox, oy);
     let (mut run, mut side) = ((1i32, 0i32), (0i32, 1i32));
     let (mut a, mut b, mut i, mut blocks) = (w, h, number, 1u32);
     while a != 1 && b != 1 {
@@ -56,18 +64,17 @@ pub fn number_to_square(w: u32, h: u32, number: u32) -> Result<(u32, u32, u32), 
         return Err(9);
     }
     let along = if b == 1 { run } else { side };
-    Ok(((x + along.0 * i as i32) as u32, (y + along.1 * i as i32) as u32, blocks))
+    Ok((x + along.0 * i as i32, y + along.1 * i as i32, blocks))
 }
 
 #[inline(never)]
-pub fn square_to_number(w: u32, h: u32, x: u32, y: u32) -> Result<(u32, u32), u32> {
-    if !accepted(w, h) {
-        return Err(1);
-    }
-    if x >= w || y >= h {
+pub fn square_to_number(w: u32, h: u32, ox: i32, oy: i32, x: i32, y: i32) -> Result<(u32, u32), u32> {
+    granted(w, h, ox, oy)?;
+    let (x, y) = (x as i64 - ox as i64, y as i64 - oy as i64);
+    if !(0..w as i64).contains(&x) || !(0..h as i64).contains(&y) {
         return Err(2);
     }
-    let (mut a, mut b, mut u, mut v, mut before, mut blocks) = (w, h, x, y, 0u32, 1u32);
+    let (mut a, mut b, mut u, mut v, mut before, mut blocks) = (w, h, x as u32, y as u32, 0u32, 1u32);
     while a != 1 && b != 1 {
         if 2 * a > 3 * b {
             let e = even_half(a);
@@ -103,15 +110,14 @@ pub fn square_to_number(w: u32, h: u32, x: u32, y: u32) -> Result<(u32, u32), u3
 }
 
 #[inline(never)]
-pub fn finish_square(w: u32, h: u32) -> Result<(u32, u32), u32> {
-    if !accepted(w, h) {
-        return Err(1);
-    }
-    match (w, h) {
-        (1, _) => Ok((0, h - 1)),
-        (_, 2) => Ok((w - 1 - w % 2, 0)),
-        _ => Ok((w - 1, 0)),
-    }
+pub fn finish_square(w: u32, h: u32, ox: i32, oy: i32) -> Result<(i32, i32), u32> {
+    granted(w, h, ox, oy)?;
+    let (x, y) = match (w, h) {
+        (1, _) => (0, h - 1),
+        (_, 2) => (w - 1 - w % 2, 0),
+        _ => (w - 1, 0),
+    };
+    Ok((ox + x as i32, oy + y as i32))
 }
 
 #[derive(Clone, Copy)]
@@ -229,11 +235,25 @@ fn number(field: &[u8]) -> Result<u32, u32> {
     u32::try_from(value).map_err(|_| 5)
 }
 
+// A field that may carry a minus; a minus before nothing is one before 0.
+fn signed(field: &[u8]) -> Result<i32, u32> {
+    let (minus, digits) = match field {
+        [b'-', digits @ ..] => (true, digits),
+        _ => (false, field),
+    };
+    let value = i32::try_from(number(digits)?).map_err(|_| 5u32)?;
+    match (minus, value) {
+        (true, 0) => Err(5),
+        (true, _) => Ok(-value),
+        _ => Ok(value),
+    }
+}
+
 // The reply's kind and numbers; the area in force is altered as the line says.
 #[inline(never)]
-pub fn handle_line(area: &mut Option<(u32, u32)>, line: &[u8]) -> Result<[u32; 4], u32> {
+pub fn handle_line(area: &mut Option<Area>, line: &[u8]) -> Result<[i64; 4], u32> {
     let before = *area;
-    if line.starts_with(b"AREA") {
+    if line.starts_with(b"AREA") || line.starts_with(b"ORIGIN") {
         *area = None;
     }
     if line.len() > 64 {
@@ -244,19 +264,26 @@ pub fn handle_line(area: &mut Option<(u32, u32)>, line: &[u8]) -> Result<[u32; 4
     match taken {
         [Some(b"AREA"), Some(w), Some(h), None] if !w.is_empty() && !h.is_empty() => {
             let (w, h) = (number(w)?, number(h)?);
-            let (x, y) = finish_square(w, h)?;
-            *area = Some((w, h));
-            Ok([1, w * h, x, y])
+            let (x, y) = finish_square(w, h, 0, 0)?;
+            *area = Some(Area { w, h, ox: 0, oy: 0 });
+            Ok([1, w as i64 * h as i64, x.into(), y.into()])
+        }
+        [Some(b"ORIGIN"), Some(ox), Some(oy), None] if !ox.is_empty() && !oy.is_empty() => {
+            let (ox, oy) = (signed(ox)?, signed(oy)?);
+            let Area { w, h, .. } = before.ok_or(7u32)?;
+            granted(w, h, ox, oy)?;
+            *area = Some(Area { w, h, ox, oy });
+            Ok([4, ox.into(), oy.into(), 0])
         }
         [Some(b"N"), Some(i), None, _] if !i.is_empty() => {
             let i = number(i)?;
-            let (w, h) = before.ok_or(7u32)?;
-            number_to_square(w, h, i).map(|(x, y, blocks)| [2, x, y, blocks])
+            let Area { w, h, ox, oy } = before.ok_or(7u32)?;
+            number_to_square(w, h, ox, oy, i).map(|(x, y, blocks)| [2, x.into(), y.into(), blocks.into()])
         }
         [Some(b"S"), Some(x), Some(y), None] if !x.is_empty() && !y.is_empty() => {
-            let (x, y) = (number(x)?, number(y)?);
-            let (w, h) = before.ok_or(7u32)?;
-            square_to_number(w, h, x, y).map(|(number, blocks)| [3, number, blocks, 0])
+            let (x, y) = (signed(x)?, signed(y)?);
+            let Area { w, h, ox, oy } = before.ok_or(7u32)?;
+            square_to_number(w, h, ox, oy, x, y).map(|(number, blocks)| [3, number.into(), blocks.into(), 0])
         }
         _ => Err(6),
     }

@@ -116,42 +116,72 @@ fn walk<T: Taker>(taker: &mut T, a: u32, b: u32, u0: u32, u1: u32, v0: u32, v1: 
 }
 
 #[derive(Clone, Copy)]
-struct Window(u32, u32, u32, u32);
+struct Area {
+    w: u32,
+    h: u32,
+    ox: i32,
+    oy: i32,
+}
 
-fn in_rust(w: u32, h: u32, v: Window, runs: &mut [u32]) -> Result<u32, u32> {
+#[derive(Clone, Copy)]
+struct Window(i32, i32, i32, i32);
+
+// The window as the whole area's pane, unless it is refused.
+fn pane(area: Area, v: Window) -> Option<Pane> {
+    let Area { w, h, ox, oy } = area;
+    let granted = (1..=65535).contains(&w) && (1..=65535).contains(&h) && ox.unsigned_abs().max(oy.unsigned_abs()) <= 1_000_000;
+    if !granted || v.0 > v.2 || v.1 > v.3 {
+        return None;
+    }
+    let from = (v.0 as i64 - ox as i64, v.1 as i64 - oy as i64);
+    let to = (v.2 as i64 - ox as i64, v.3 as i64 - oy as i64);
+    if from.0 < 0 || from.1 < 0 || to.0 >= w as i64 || to.1 >= h as i64 {
+        return None;
+    }
+    Some(Pane { a: w, b: h, u0: from.0 as u32, u1: to.0 as u32 + 1, v0: from.1 as u32, v1: to.1 as u32 + 1 })
+}
+
+fn see<T: Taker>(taker: &mut T, p: Pane) {
+    walk(taker, p.a, p.b, p.u0, p.u1, p.v0, p.v1, 0)
+}
+
+fn in_rust(area: Area, v: Window, runs: &mut [u32]) -> Result<u32, u32> {
+    let p = pane(area, v).ok_or(0u32)?;
     let mut counter = Counter { runs: 0, end: u32::MAX };
-    walk(&mut counter, w, h, v.0, v.2 + 1, v.1, v.3 + 1, 0);
+    see(&mut counter, p);
     if runs.len() / 2 < counter.runs as usize {
         return Err(counter.runs);
     }
     let mut writer = Writer { pairs: runs, at: 0, end: u32::MAX };
-    walk(&mut writer, w, h, v.0, v.2 + 1, v.1, v.3 + 1, 0);
+    see(&mut writer, p);
     Ok(counter.runs)
 }
 
-fn blocks(w: u32, h: u32, v: Window) -> u64 {
+fn blocks(area: Area, v: Window) -> u64 {
     let mut blocks = Blocks(0);
-    walk(&mut blocks, w, h, v.0, v.2 + 1, v.1, v.3 + 1, 0);
+    see(&mut blocks, pane(area, v).expect("a window of the area"));
     blocks.0
 }
 
 // SAFETY, here and below: each slice is passed with its own length, and no two of them overlap.
-fn by_library(w: u32, h: u32, v: Window, runs: &mut [u32]) -> Result<u32, u32> {
+fn by_library(area: Area, v: Window, runs: &mut [u32]) -> Result<u32, u32> {
+    let Area { w, h, ox, oy } = area;
     let mut count = [0];
-    match unsafe { raw::uvalinda_runs_for_window(w, h, v.0, v.1, v.2, v.3, runs.as_mut_ptr(), runs.len(), count.as_mut_ptr(), 1) } {
+    match unsafe { raw::uvalinda_runs_for_window(w, h, ox, oy, v.0, v.1, v.2, v.3, runs.as_mut_ptr(), runs.len(), count.as_mut_ptr(), 1) } {
         0 => Ok(count[0]),
         _ => Err(count[0]),
     }
 }
 
 // The numbers of some squares by lookups, sorted and joined: of the border, whose numbers are enough to find every run's ends, or of all squares.
-fn by_lookups(w: u32, h: u32, v: Window, all: bool) -> usize {
+fn by_lookups(area: Area, v: Window, all: bool) -> usize {
+    let Area { w, h, ox, oy } = area;
     let mut numbers = vec![];
     for y in v.1..=v.3 {
         let step = if all || y == v.1 || y == v.3 { 1 } else { (v.2 - v.0).max(1) as usize };
         for x in (v.0..=v.2).step_by(step) {
             let mut found = [0; 2];
-            unsafe { raw::uvalinda_square_to_number(w, h, x, y, found.as_mut_ptr(), 2) };
+            unsafe { raw::uvalinda_square_to_number(w, h, ox, oy, x, y, found.as_mut_ptr(), 2) };
             numbers.push(found[0]);
         }
     }
@@ -182,29 +212,30 @@ fn in_turn(windows: &[Window], rounds: u32, calls: u32, mut one: impl FnMut(Wind
 }
 
 fn main() {
-    let (w, h) = (4096, 4096);
+    let side = 4096;
+    let area = black_box(Area { w: side as u32, h: side as u32, ox: -2000, oy: 31 });
     println!("### Runs of a window of 4,096 by 4,096\n");
     println!("| Window | Runs | Library, µs | Rust, µs | Ratio | Border by lookups | All squares by lookups | Blocks for each border square |");
     println!("|---|---|---|---|---|---|---|---|");
     let (mut one, mut other) = (vec![0; 40_000], vec![0; 40_000]);
     for (wide, high) in [(10, 10), (100, 100), (1000, 1000), (2900, 2900), (1, 1000), (1000, 1)] {
-        let at = |i: u32| ((i * 977 + 131) % (w - wide + 1), (i * 1_409 + 577) % (h - high + 1));
+        let at = |i: i32| (area.ox + (i * 977 + 131) % (side - wide + 1), area.oy + (i * 1_409 + 577) % (side - high + 1));
         let windows: Vec<Window> = (0..32).map(at).map(|(x, y)| Window(x, y, x + wide - 1, y + high - 1)).collect();
         let (mut runs, mut entered) = (0, 0);
         for v in &windows {
-            let count = by_library(w, h, *v, &mut one).expect("there is room");
-            assert_eq!(Ok(count), in_rust(w, h, *v, &mut other));
+            let count = by_library(area, *v, &mut one).expect("there is room");
+            assert_eq!(Ok(count), in_rust(area, *v, &mut other));
             assert_eq!(one[..2 * count as usize], other[..2 * count as usize]);
-            assert_eq!(by_library(w, h, *v, &mut []), in_rust(w, h, *v, &mut []));
-            (runs, entered) = (runs + count as u64, entered + blocks(w, h, *v));
+            assert_eq!(by_library(area, *v, &mut []), in_rust(area, *v, &mut []));
+            (runs, entered) = (runs + count as u64, entered + blocks(area, *v));
         }
-        let calls = 1 + 2_000 / (wide + high);
-        let by_library = |v: Window| u64::from(by_library(w, h, v, &mut one).unwrap_or_default());
-        let in_rust = |v: Window| u64::from(in_rust(w, h, v, &mut other).unwrap_or_default());
+        let calls = 1 + 2_000 / (wide + high) as u32;
+        let by_library = |v: Window| u64::from(by_library(area, v, &mut one).unwrap_or_default());
+        let in_rust = |v: Window| u64::from(in_rust(area, v, &mut other).unwrap_or_default());
         let (library, rust) = in_turn(&windows, 60, calls, by_library, in_rust);
-        let (border, all) = in_turn(&windows[..1], 3, 1, |v| by_lookups(w, h, v, false) as u64, |v| by_lookups(w, h, v, true) as u64);
+        let (border, all) = in_turn(&windows[..1], 3, 1, |v| by_lookups(area, v, false) as u64, |v| by_lookups(area, v, true) as u64);
         // All squares, but for those that have one beyond them on each of their four sides.
-        let inner = wide.saturating_sub(2) * high.saturating_sub(2);
+        let inner = (wide - 2).max(0) * (high - 2).max(0);
         let squares = (wide * high - inner) as f64 * windows.len() as f64;
         println!(
             "| {wide} by {high} | {} | {library:.2} | {rust:.2} | {:.2} | {:.0} times | {:.0} times | {:.2} |",

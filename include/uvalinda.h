@@ -1,8 +1,11 @@
 /*
  * Uvalinda: numbers the squares of a rectangle along the Gilbert curve.
  *
- * An area is w squares wide and h high, each from 1 to 65,535. Its squares are (x, y) with 0 <= x < w and 0 <= y < h; its numbers run from 0 to
- * w * h - 1. Every call takes any numbers at all and comes to an end; nothing has to be checked before.
+ * An area is w squares wide and h high, each from 1 to 65,535; its numbers run from 0 to w * h - 1. Its squares lie on the site grid, counted from a
+ * datum post: those from (ox, oy), the area's origin, to (ox + w - 1, oy + h - 1). Each of ox and oy is from -1,000,000 to 1,000,000; a site that
+ * counts from the area's own corner has origin 0, 0. Calls that ask or answer squares take the origin behind w and h, and have squares as int32_t;
+ * numbers, tables, checks and counts of blocks do not depend on it. Every call takes any numbers at all and comes to an end; nothing has to be
+ * checked before.
  *
  * What a call returns: 0, or the number of a refusal (UVALINDA_AREA_LIMIT and so on), or UVALINDA_SHORT_RESULT.
  *
@@ -17,12 +20,12 @@
  * is followed by its length, in places (in bytes, for a line), and may be null where that length is 0. What the caller has to see to, since C
  * cannot: a pointer has as many places as its length says, and what is written to overlaps nothing else that the same call was lent.
  *
- * Example: where is number 8 of a 3 by 4 area?
+ * Example: where is number 8 of a 3 by 4 area whose first square is (-5, 7)?
  *
- *     uint32_t found[UVALINDA_SQUARE_PLACES];
- *     uint32_t refusal = uvalinda_number_to_square(3, 4, 8, found, UVALINDA_SQUARE_PLACES);
+ *     int32_t found[UVALINDA_SQUARE_PLACES];
+ *     uint32_t refusal = uvalinda_number_to_square(3, 4, -5, 7, 8, found, UVALINDA_SQUARE_PLACES);
  *     if (refusal == UVALINDA_ANSWERED) {
- *         printf("(%u, %u), held by %u blocks\n", found[0], found[1], found[2]); // (2, 1), held by 3 blocks
+ *         printf("(%d, %d), held by %d blocks\n", found[0], found[1], found[2]); // (-3, 8), held by 3 blocks
  *     } else {
  *         printf("refused: %u\n", refusal);
  *     }
@@ -33,25 +36,26 @@
 #include <stddef.h>
 #include <stdint.h>
 
-#define UVALINDA_VERSION "1.0.0"
+#define UVALINDA_VERSION "2.0.0"
 
 #ifdef __cplusplus
 extern "C" {
 #endif
 
-/* What a call returns. 1 to 11 are the refusals; which of them a call can give is said with the call. */
+/* What a call returns. 1 to 12 are the refusals; which of them a call can give is said with the call. */
 #define UVALINDA_ANSWERED 0u        /* not refused */
 #define UVALINDA_AREA_LIMIT 1u      /* w or h is 0 or over 65,535 */
-#define UVALINDA_SQUARE_OUTSIDE 2u  /* x >= w or y >= h, of a square or of a window's corner */
+#define UVALINDA_SQUARE_OUTSIDE 2u  /* x < ox, y < oy, x >= ox + w or y >= oy + h, in whole numbers; of a square or of a window's corner */
 #define UVALINDA_NUMBER_OUTSIDE 3u  /* number >= w * h */
 #define UVALINDA_TABLE_LENGTH 4u    /* the table has not exactly w * h places */
 #define UVALINDA_NOT_A_NUMBER 5u    /* a field of a line is not a number */
 #define UVALINDA_WRONG_SHAPE 6u     /* a line has the wrong shape */
-#define UVALINDA_NO_AREA 7u         /* an N or S line with no area in force */
+#define UVALINDA_NO_AREA 7u         /* an N, S or ORIGIN line with no area in force */
 #define UVALINDA_LONG_LINE 8u       /* a line has over 64 bytes */
 #define UVALINDA_TOO_DEEP 9u        /* over 64 blocks of the division hold a square; proved never to arise */
 #define UVALINDA_CORNERS_CROSSED 10u /* x0 > x1 or y0 > y1 */
 #define UVALINDA_NO_ROOM 11u        /* there are more runs than whole pairs of room; the value tells how many runs there are */
+#define UVALINDA_ORIGIN_LIMIT 12u   /* ox or oy is under -1,000,000 or over 1,000,000 */
 #define UVALINDA_SHORT_RESULT 255u  /* `result` or `blocks` is too short: nothing was done */
 
 /* How many values each call writes. */
@@ -61,36 +65,38 @@ extern "C" {
 #define UVALINDA_FILL_PLACES 1u
 #define UVALINDA_CHECK_PLACES 3u
 #define UVALINDA_RUNS_PLACES 1u
-#define UVALINDA_LINE_PLACES 6u
+#define UVALINDA_LINE_PLACES 8u
 
-/* What kind of reply a line got: the third value of uvalinda_handle_line. */
-#define UVALINDA_REPLY_REFUSED 0u
-#define UVALINDA_REPLY_AREA 1u
-#define UVALINDA_REPLY_CELL 2u
-#define UVALINDA_REPLY_NUMBER 3u
+/* What kind of reply a line got: the fifth value of uvalinda_handle_line. */
+#define UVALINDA_REPLY_REFUSED 0
+#define UVALINDA_REPLY_AREA 1
+#define UVALINDA_REPLY_CELL 2
+#define UVALINDA_REPLY_NUMBER 3
+#define UVALINDA_REPLY_ORIGIN 4
 
 /*
  * The square of a number. Values: x, y, and how many blocks of the division hold the square.
- * Refusals, in this order: AREA_LIMIT, NUMBER_OUTSIDE, TOO_DEEP.
+ * Refusals, in this order: AREA_LIMIT, ORIGIN_LIMIT, NUMBER_OUTSIDE, TOO_DEEP.
  */
-uint32_t uvalinda_number_to_square(uint32_t w, uint32_t h, uint32_t number, uint32_t *result, size_t result_length);
+uint32_t uvalinda_number_to_square(uint32_t w, uint32_t h, int32_t ox, int32_t oy, uint32_t number, int32_t *result, size_t result_length);
 
 /*
  * The number of a square. Values: the number, and how many blocks of the division hold the square.
- * Refusals, in this order: AREA_LIMIT, SQUARE_OUTSIDE, TOO_DEEP.
+ * Refusals, in this order: AREA_LIMIT, ORIGIN_LIMIT, SQUARE_OUTSIDE, TOO_DEEP.
  */
-uint32_t uvalinda_square_to_number(uint32_t w, uint32_t h, uint32_t x, uint32_t y, uint32_t *result, size_t result_length);
+uint32_t uvalinda_square_to_number(uint32_t w, uint32_t h, int32_t ox, int32_t oy, int32_t x, int32_t y, uint32_t *result, size_t result_length);
 
 /*
- * The finish square of an area, where a crew stands at the end: the square of number w * h - 1. Values: x, y. It is (w - 1, 0), except for width 1
- * with height above 1, where it is (0, h - 1), and for odd width of 3 or more with height 2, where it is (w - 2, 0).
- * Refusal: AREA_LIMIT.
+ * The finish square of an area, where a crew stands at the end: the square of number w * h - 1. Values: x, y. From the origin it lies (w - 1, 0) off,
+ * except for width 1 with height above 1, where that is (0, h - 1), and for odd width of 3 or more with height 2, where it is (w - 2, 0).
+ * Refusals, in this order: AREA_LIMIT, ORIGIN_LIMIT.
  */
-uint32_t uvalinda_finish_square(uint32_t w, uint32_t h, uint32_t *result, size_t result_length);
+uint32_t uvalinda_finish_square(uint32_t w, uint32_t h, int32_t ox, int32_t oy, int32_t *result, size_t result_length);
 
 /*
- * Fills a table of exactly w * h places. By number: place i gets y * w + x of square number i. By square: place y * w + x gets the square's
- * number. Value, of 64 bits since it can exceed 32: how many blocks the division has.
+ * Fills a table of exactly w * h places, in which a square counts from the area's own corner whatever the origin is: (0, 0) is the first. By number:
+ * place i gets y * w + x of square number i. By square: place y * w + x gets the square's number. Value, of 64 bits since it can exceed 32: how many
+ * blocks the division has.
  * Refusals, in this order: AREA_LIMIT, TABLE_LENGTH, TOO_DEEP. The table is then as it was, as it is at SHORT_RESULT.
  */
 uint32_t uvalinda_fill_by_number(uint32_t w, uint32_t h, uint32_t *table, size_t table_length, uint64_t *blocks, size_t blocks_length);
@@ -109,18 +115,18 @@ uint32_t uvalinda_check_by_square(uint32_t w, uint32_t h, const uint32_t *table,
  * The numbers of the squares with x from x0 to x1 and y from y0 to y1, ends included, as runs: the pairs (first, last) go to `runs` one behind the
  * other, ascending, no two runs touching or overlapping. Places behind the last pair are not written; room is whole pairs, so that an odd last place
  * never is. Value: how many runs there are, also at NO_ROOM.
- * Refusals, in this order: AREA_LIMIT, CORNERS_CROSSED, SQUARE_OUTSIDE for a corner outside the area, NO_ROOM, TOO_DEEP. `runs` is then as it was, as
- * it is at SHORT_RESULT. A window of W by H squares takes time by its border, W + H, not by its area.
+ * Refusals, in this order: AREA_LIMIT, ORIGIN_LIMIT, CORNERS_CROSSED, SQUARE_OUTSIDE for a corner outside the area, NO_ROOM, TOO_DEEP. `runs` is then
+ * as it was, as it is at SHORT_RESULT. A window of W by H squares takes time by its border, W + H, not by its area.
  *
  * Who does not know how much room to lend asks first with none:
  *
  *     uint32_t count[UVALINDA_RUNS_PLACES];
- *     uint32_t refusal = uvalinda_runs_for_window(3, 4, 0, 0, 1, 1, NULL, 0, count, UVALINDA_RUNS_PLACES);
+ *     uint32_t refusal = uvalinda_runs_for_window(3, 4, 0, 0, 0, 0, 1, 1, NULL, 0, count, UVALINDA_RUNS_PLACES);
  *     if (refusal == UVALINDA_NO_ROOM) {
  *         size_t places = 2 * (size_t)count[0];
  *         uint32_t *runs = malloc(places * sizeof *runs);
  *         if (runs != NULL) { // with that much room the call is answered
- *             uvalinda_runs_for_window(3, 4, 0, 0, 1, 1, runs, places, count, UVALINDA_RUNS_PLACES);
+ *             uvalinda_runs_for_window(3, 4, 0, 0, 0, 0, 1, 1, runs, places, count, UVALINDA_RUNS_PLACES);
  *             for (size_t i = 0; i < count[0]; i++) {
  *                 printf("%u to %u\n", runs[2 * i], runs[2 * i + 1]); // 0 to 1, then 9 to 10
  *             }
@@ -130,21 +136,47 @@ uint32_t uvalinda_check_by_square(uint32_t w, uint32_t h, const uint32_t *table,
  *         printf("refused: %u\n", refusal);
  *     }
  */
-uint32_t uvalinda_runs_for_window(uint32_t w, uint32_t h, uint32_t x0, uint32_t y0, uint32_t x1, uint32_t y1, uint32_t *runs, size_t runs_length,
-                                  uint32_t *result, size_t result_length);
+uint32_t uvalinda_runs_for_window(uint32_t w, uint32_t h, int32_t ox, int32_t oy, int32_t x0, int32_t y0, int32_t x1, int32_t y1, uint32_t *runs,
+                                  size_t runs_length, uint32_t *result, size_t result_length);
 
 /*
- * Answers one order line: `AREA w h`, `N i` or `S x y`, any bytes, without the newline. The caller keeps the area in force as two numbers,
- * begins with 0 and 0 for none, and hands on from line to line what the last call left. Numbers that are no accepted area count as none.
- * A number of the line is plain, as 30, or padded with zeros to exactly ten digits, as 0000000030; 07 is none.
- * Values: w and h of the area in force after the line, 0 and 0 for none, also where the line is refused; then
+ * Answers one order line: `AREA w h`, `ORIGIN ox oy`, `N i` or `S x y`, any bytes, without the newline. The caller keeps the area in force as four
+ * numbers, w, h, ox and oy, begins with 0 each for none, and hands on from line to line what the last call left. Numbers that are no accepted area,
+ * or an origin beyond the range, count as none.
+ *
+ * Which area is in force after the line: an accepted AREA line sets w and h, and the origin to 0 0. An accepted ORIGIN line sets the origin,
+ * whatever it was: it does not add to it. A refused line whose first bytes are AREA or ORIGIN leaves no area, whatever it is refused for. No other
+ * line, refused or not, alters the area or its origin.
+ *
+ * A number of the line is plain, as 30, or padded with zeros to exactly ten digits, as 0000000030; 07 is none. Those of ORIGIN and S may carry a
+ * minus, as -30 or -0000000030, and are at most 2,147,483,647 either way; -0 is none.
+ *
+ * Values, of 64 bits, so that one type holds signed and unsigned 32-bit numbers: w, h, ox and oy of the area in force after the line, 0 each for
+ * none, also where the line is refused; then
  *   UVALINDA_REPLY_AREA, how many squares the area has, x and y of its finish square; or
+ *   UVALINDA_REPLY_ORIGIN, ox, oy, 0; or
  *   UVALINDA_REPLY_CELL, x, y, blocks; or
  *   UVALINDA_REPLY_NUMBER, number, blocks, 0; or
  *   UVALINDA_REPLY_REFUSED, 0, 0, 0.
- * Refusals, in this order: LONG_LINE, WRONG_SHAPE, NOT_A_NUMBER, NO_AREA, then those of the call that the line asks for.
+ * Refusals, in this order: LONG_LINE, WRONG_SHAPE, NOT_A_NUMBER, NO_AREA for any line but AREA, then those of the call that the line asks for; of an
+ * ORIGIN line ORIGIN_LIMIT.
+ *
+ * A form line by line, each under the area that the one before it left:
+ *
+ *     const char *form[] = {"AREA 3 4", "ORIGIN -5 7", "N 8"};
+ *     int64_t now[UVALINDA_LINE_PLACES] = {0}; // no area in force
+ *     for (size_t i = 0; i < 3; i++) {
+ *         uint32_t refusal = uvalinda_handle_line((uint32_t)now[0], (uint32_t)now[1], (int32_t)now[2], (int32_t)now[3],
+ *                                                 (const uint8_t *)form[i], strlen(form[i]), now, UVALINDA_LINE_PLACES);
+ *         if (refusal != UVALINDA_ANSWERED) {
+ *             printf("refused: %u\n", refusal);
+ *         } else if (now[4] == UVALINDA_REPLY_CELL) {
+ *             printf("(%d, %d)\n", (int)now[5], (int)now[6]); // (-3, 8)
+ *         }
+ *     }
  */
-uint32_t uvalinda_handle_line(uint32_t w, uint32_t h, const uint8_t *line, size_t line_length, uint32_t *result, size_t result_length);
+uint32_t uvalinda_handle_line(uint32_t w, uint32_t h, int32_t ox, int32_t oy, const uint8_t *line, size_t line_length, int64_t *result,
+                              size_t result_length);
 
 #ifdef __cplusplus
 }

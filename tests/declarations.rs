@@ -30,6 +30,8 @@ fn c_type(number: &str) -> &'static str {
         "u8" => "uint8_t",
         "u32" => "uint32_t",
         "u64" => "uint64_t",
+        "i32" => "int32_t",
+        "i64" => "int64_t",
         "usize" => "size_t",
         _ => panic!("no C type for {number}"),
     }

@@ -8,6 +8,7 @@ use std::io::Read;
 fn text(reply: Reply) -> String {
     match reply {
         Reply::Area { w, h, squares, x, y } => format!("AREA {w} {h} {squares} {x} {y}"),
+        Reply::Origin { ox, oy } => format!("ORIGIN {ox} {oy}"),
         Reply::Cell { x, y, blocks } => format!("CELL {x} {y} {blocks}"),
         Reply::Number { number, blocks } => format!("NUMBER {number} {blocks}"),
         Reply::Refused(refusal) => format!("REFUSED {refusal}"),

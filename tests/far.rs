@@ -29,6 +29,7 @@ const SC_PAGESIZE: c_int = 30;
 // An area of over 2^31 squares, with both sides odd: in its division there are small blocks in the uppermost rows that no part which holds them repeats.
 const W: i64 = 65_535;
 const H: i64 = 33_001;
+const AREA: independent::Area = independent::Area { w: W, h: H, ox: 0, oy: 0 };
 
 // The bytes of the file that takes what is lost: few enough for a processor's cache, and enough that the system allows as many pieces of it as there are.
 const LOST: usize = 1 << 20;
@@ -38,14 +39,14 @@ const MOST: i64 = 20_000;
 
 // What the table has at a number: the place of that number's square.
 fn due(number: i64) -> i64 {
-    let square = independent::number_to_square(W, H, number).expect("a number of the area");
+    let square = independent::number_to_square(AREA, number).expect("a number of the area");
     square[1] * W + square[0]
 }
 
 // The first number and the length of the block to compare for a square, if there is one. What holds it repeats nothing, so that no part of it is
 // taken from pages that are lost. Of its own parts the last repeats the first; turned, what they have at like places has one and the same sum.
 fn to_compare(x: i64, y: i64) -> Option<(i64, i64)> {
-    let number = independent::square_to_number(W, H, x, y).expect("a square of the area")[0];
+    let number = independent::square_to_number(AREA, x, y).expect("a square of the area")[0];
     let steps = independent::way_down(W, H, number);
     let repeat = steps.iter().position(|step| step.again)?;
     let (block, last) = (&steps[repeat - 1], &steps[repeat]);

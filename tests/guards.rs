@@ -2,6 +2,7 @@
 // its beginning on. What a call may not alter lies in pages that can only be read: a line, a table under a check or a refused fill, a slice that is too
 // short. Where a check by number finds one of a table's first places wrong, all places behind them lie in such memory. Each answer is held to the independent
 // program's. A touch of anything else ends the program, which says what was asked.
+#[allow(dead_code)] // areas with many origins are not needed here
 mod expected;
 #[allow(dead_code)] // whole traversals are not needed here
 mod independent;
@@ -10,7 +11,7 @@ mod random;
 #[path = "../bindings/rust/src/raw.rs"]
 mod raw;
 
-use expected::{due, line_due, UNTOUCHED};
+use expected::{due, in_force, line_due, told, untouched, Area, Told, UNTOUCHED};
 use independent::Window;
 use random::Lines;
 use std::cell::Cell;
@@ -116,11 +117,11 @@ impl Room {
     }
 
     // One question, with a result slice of every length up to two places more than enough, against either guard. What is due is given by the length.
-    fn ask<T: Copy + From<u32> + Into<u64>>(
+    fn ask<T: Copy + TryFrom<u32> + Into<i128>>(
         &self,
         what: &str,
         values: usize,
-        due: impl Fn(usize) -> (u32, Vec<u64>),
+        due: impl Fn(usize) -> Told,
         call: impl Fn(*mut T, usize, Guard) -> u32,
     ) {
         for length in 0..=values + 2 {
@@ -128,9 +129,9 @@ impl Room {
             for guard in [Guard::Before, Guard::Behind] {
                 let asked = format!("{what}, {length} places for the result, guard: {guard:?}");
                 asked.clone_into(&mut ASKED.lock().unwrap());
-                let result = self.results.lay(&vec![T::from(UNTOUCHED); length], guard, if length < values { PROT_READ } else { PROT_BOTH });
+                let result = self.results.lay(&untouched::<T>(length), guard, if length < values { PROT_READ } else { PROT_BOTH });
                 let returned = call(result, length, guard);
-                assert_eq!((returned, left(result, length).into_iter().map(T::into).collect()), due, "{asked}");
+                assert_eq!(told(returned, left(result, length)), due, "{asked}");
                 self.calls.set(self.calls.get() + 1);
             }
         }
@@ -138,22 +139,25 @@ impl Room {
 }
 
 // SAFETY, here and below: each slice is passed with its own length, and no two of them overlap.
-fn number_to_square(room: &Room, w: u32, h: u32, number: u32) {
-    let answer = independent::number_to_square(w as i64, h as i64, number as i64);
-    let call = |result, length, _| unsafe { raw::uvalinda_number_to_square(w, h, number, result, length) };
-    room.ask(&format!("number {number} of {w} by {h}"), 3, |length| due(&answer, 3, length), call);
+fn number_to_square(room: &Room, area: Area, number: u32) {
+    let Area { w, h, ox, oy } = area;
+    let answer = independent::number_to_square(area.into(), number.into());
+    let call = |result, length, _| unsafe { raw::uvalinda_number_to_square(w, h, ox, oy, number, result, length) };
+    room.ask(&format!("number {number} of {area:?}"), 3, |length| due(&answer, 3, length), call);
 }
 
-fn square_to_number(room: &Room, w: u32, h: u32, x: u32, y: u32) {
-    let answer = independent::square_to_number(w as i64, h as i64, x as i64, y as i64);
-    let call = |result, length, _| unsafe { raw::uvalinda_square_to_number(w, h, x, y, result, length) };
-    room.ask(&format!("square ({x}, {y}) of {w} by {h}"), 2, |length| due(&answer, 2, length), call);
+fn square_to_number(room: &Room, area: Area, x: i32, y: i32) {
+    let Area { w, h, ox, oy } = area;
+    let answer = independent::square_to_number(area.into(), x.into(), y.into());
+    let call = |result, length, _| unsafe { raw::uvalinda_square_to_number(w, h, ox, oy, x, y, result, length) };
+    room.ask(&format!("square ({x}, {y}) of {area:?}"), 2, |length| due(&answer, 2, length), call);
 }
 
-fn finish_square(room: &Room, w: u32, h: u32) {
-    let answer = independent::finish_square(w as i64, h as i64);
-    let call = |result, length, _| unsafe { raw::uvalinda_finish_square(w, h, result, length) };
-    room.ask(&format!("finish square of {w} by {h}"), 2, |length| due(&answer, 2, length), call);
+fn finish_square(room: &Room, area: Area) {
+    let Area { w, h, ox, oy } = area;
+    let answer = independent::finish_square(area.into());
+    let call = |result, length, _| unsafe { raw::uvalinda_finish_square(w, h, ox, oy, result, length) };
+    room.ask(&format!("finish square of {area:?}"), 2, |length| due(&answer, 2, length), call);
 }
 
 fn fill(room: &Room, w: u32, h: u32, by_square: bool, places: usize) {
@@ -181,20 +185,21 @@ fn check(room: &Room, w: u32, h: u32, by_square: bool, table: &[u32]) {
 }
 
 // The slice for runs can only be read where the call may not write it.
-fn runs_for_window(room: &Room, w: u32, h: u32, v: [u32; 4], places: usize) {
-    let window = Window { x0: v[0] as i64, y0: v[1] as i64, x1: v[2] as i64, y1: v[3] as i64 };
-    let runs = || independent::runs_by_squares(w as i64, h as i64, window);
-    let (refusal, count, written) = independent::window_answer(w as i64, h as i64, window, places, runs);
+fn runs_for_window(room: &Room, area: Area, [x0, y0, x1, y1]: [i32; 4], places: usize) {
+    let Area { w, h, ox, oy } = area;
+    let window = Window { x0: x0.into(), y0: y0.into(), x1: x1.into(), y1: y1.into() };
+    let runs = || independent::runs_by_squares(area.into(), window);
+    let (refusal, count, written) = independent::window_answer(area.into(), window, places, runs);
     let before = vec![UNTOUCHED; places];
     let mut after = before.clone();
     for (pair, run) in after.chunks_mut(2).zip(&written) {
         pair.copy_from_slice(&[run.0 as u32, run.1 as u32]);
     }
-    let what = format!("runs of {v:?} in {w} by {h}, {places} places");
+    let what = format!("runs of {window:?} in {area:?}, {places} places");
     let call = |result, length, guard| {
         let (left_so, protection) = if refusal == 0 && length >= 1 { (&after, PROT_BOTH) } else { (&before, PROT_READ) };
         let slice = room.lay(&before, guard, protection);
-        let returned = unsafe { raw::uvalinda_runs_for_window(w, h, v[0], v[1], v[2], v[3], slice, places, result, length) };
+        let returned = unsafe { raw::uvalinda_runs_for_window(w, h, ox, oy, x0, y0, x1, y1, slice, places, result, length) };
         assert!(left(slice, places) == *left_so, "the runs after {what}, {length} places for the result, guard: {guard:?}");
         returned
     };
@@ -202,18 +207,21 @@ fn runs_for_window(room: &Room, w: u32, h: u32, v: [u32; 4], places: usize) {
 }
 
 // Windows of an area, with room none, short, odd, exact and ample, and some that are refused.
-fn windows(room: &Room, w: u32, h: u32) {
-    for v in [[0, 0, w / 2, h / 2], [w / 3, h / 2, w - 1, h - 1], [0, h / 2, w - 1, h / 2], [1, 0, 0, 0], [0, 0, w, 0], [0, 0, w - 1, h - 1]] {
+fn windows(room: &Room, area: Area) {
+    let (w, h) = (area.w as i32, area.h as i32);
+    for v in [[0, 0, w / 2, h / 2], [w / 3, h / 2, w - 1, h - 1], [0, h / 2, w - 1, h / 2], [1, 0, 0, 0], [0, 0, w, 0], [-1, 0, 0, 0], [0, 0, w - 1, h - 1]] {
+        let [x0, y0, x1, y1] = v;
         for places in [0, 1, 2, 3, 4, 5, 9, 16, 41] {
-            runs_for_window(room, w, h, v, places);
+            runs_for_window(room, area, [area.ox + x0, area.oy + y0, area.ox + x1, area.oy + y1], places);
         }
     }
 }
 
-fn handle_line(room: &Room, w: u32, h: u32, line: &[u8]) {
+fn handle_line(room: &Room, area: Area, line: &[u8]) {
+    let Area { w, h, ox, oy } = area;
     let text = String::from_utf8_lossy(&line[..line.len().min(80)]);
-    let call = |result, length, guard| unsafe { raw::uvalinda_handle_line(w, h, room.lay(line, guard, PROT_READ), line.len(), result, length) };
-    room.ask(&format!("line {text:?}, {} bytes, under {w} by {h}", line.len()), 6, |length| line_due(w, h, line, length), call);
+    let call = |result, length, guard| unsafe { raw::uvalinda_handle_line(w, h, ox, oy, room.lay(line, guard, PROT_READ), line.len(), result, length) };
+    room.ask(&format!("line {text:?}, {} bytes, under {area:?}", line.len()), 8, |length| line_due(area, line, length), call);
 }
 
 // Fills and checks of a table of some length; where it is the right one, checks of a right table and of one that is wrong at either end or in the middle.
@@ -234,39 +242,48 @@ fn tables(room: &Room, w: u32, h: u32, places: usize) {
 }
 
 // A small area: every number, every square, those past the ends, and tables of the right and of other lengths.
-fn small_area(room: &Room, w: u32, h: u32) {
-    let squares = w * h;
+fn small_area(room: &Room, area: Area) {
+    let squares = area.w * area.h;
     for number in 0..=squares + 1 {
-        number_to_square(room, w, h, number);
+        number_to_square(room, area, number);
     }
-    for (x, y) in (0..=w).flat_map(|x| (0..=h).map(move |y| (x, y))) {
-        square_to_number(room, w, h, x, y);
+    for (x, y) in (-1..=area.w as i32).flat_map(|x| (-1..=area.h as i32).map(move |y| (x, y))) {
+        square_to_number(room, area, area.ox + x, area.oy + y);
     }
-    finish_square(room, w, h);
+    finish_square(room, area);
     for places in [0, 1, squares.saturating_sub(1), squares, squares + 1, 2 * squares] {
-        tables(room, w, h, places as usize);
+        tables(room, area.w, area.h, places as usize);
     }
 }
 
+// Numbers about the end of an area's, and coordinates about the ends of a side.
+fn numbers_about(n: u32) -> [u32; 7] {
+    [0, 1, n / 2, n.wrapping_sub(1), n, n.wrapping_add(1), u32::MAX]
+}
+
+fn coordinates_about(from: i32, n: u32) -> [i32; 8] {
+    let on = |c: u32| from.wrapping_add_unsigned(c);
+    [i32::MIN, from.wrapping_sub(1), from, on(n / 2), on(n.wrapping_sub(1)), on(n), on(n.wrapping_add(1)), i32::MAX]
+}
+
 // A large area, or one that is none: numbers and squares about its ends, and tables of some lengths.
-fn large_area(room: &Room, w: u32, h: u32, lengths: &[usize]) {
-    let ends = |n: u32| [0, 1, n / 2, n.wrapping_sub(1), n, n.wrapping_add(1), u32::MAX];
-    for number in ends(w.wrapping_mul(h)) {
-        number_to_square(room, w, h, number);
+fn large_area(room: &Room, area: Area, lengths: &[usize]) {
+    for number in numbers_about(area.w.wrapping_mul(area.h)) {
+        number_to_square(room, area, number);
     }
-    for (x, y) in ends(w).into_iter().flat_map(|x| ends(h).map(|y| (x, y))) {
-        square_to_number(room, w, h, x, y);
+    for (x, y) in coordinates_about(area.ox, area.w).into_iter().flat_map(|x| coordinates_about(area.oy, area.h).map(|y| (x, y))) {
+        square_to_number(room, area, x, y);
     }
-    finish_square(room, w, h);
+    finish_square(room, area);
     for &places in lengths {
-        tables(room, w, h, places);
+        tables(room, area.w, area.h, places);
     }
 }
 
 // Checks by number of a table of which only the first places may be read, and one of these is wrong: the check ends there, whatever would lie behind.
 fn ends_where_wrong(room: &Room, w: u32, h: u32, places: usize) {
     let place = |number| {
-        let square = independent::number_to_square(w as i64, h as i64, number as i64).expect("a number of the area");
+        let square = independent::number_to_square(Area::new(w, h).into(), number as i64).expect("a number of the area");
         (square[1] * w as i64 + square[0]) as u32
     };
     let right: Vec<u32> = (0..places).map(place).collect();
@@ -286,20 +303,20 @@ fn ends_where_wrong(room: &Room, w: u32, h: u32, places: usize) {
 // the one before it left.
 fn lines(room: &Room) {
     let right = [("AREA 12 11", b'7'), ("AREA 12 11", b' '), ("N 4294967295", b'9'), ("N 130", b' '), ("S 11 10", b' '), ("S 3 4", b'0')];
-    for (start, goes_on) in right.into_iter().chain([("", b'7'), ("", 0)]) {
+    let signed = [("ORIGIN -7 7", b' '), ("ORIGIN -1000000 -1000000", b'0'), ("ORIGIN -", b'-'), ("S -2147483647 -0000000003", b' '), ("S -3 -", b'0')];
+    for (start, goes_on) in right.into_iter().chain(signed).chain([("", b'7'), ("", 0), ("", b'-')]) {
         for length in (0..=70).chain([255, 256, 257, 4_095, 4_096, 65_536, 70_000]) {
             let mut line = start.as_bytes()[..start.len().min(length)].to_vec();
             line.resize(length, goes_on);
-            handle_line(room, 12, 11, &line);
-            handle_line(room, 0, 0, &line);
+            handle_line(room, Area::new(12, 11).at(-5, 3), &line);
+            handle_line(room, Area::new(0, 0), &line);
         }
     }
     let mut lines = Lines::from(1);
-    let (mut w, mut h) = (0, 0);
+    let mut area = Area::new(0, 0);
     for line in std::iter::repeat_with(|| lines.next()).take(5_000) {
-        handle_line(room, w, h, &line);
-        let (_, after) = line_due(w, h, &line, 6);
-        (w, h) = (after[0] as u32, after[1] as u32);
+        handle_line(room, area, &line);
+        area = in_force(&line_due(area, &line, 8));
     }
 }
 
@@ -310,15 +327,21 @@ fn main() {
     }
     let room = Room { results: Pages::for_bytes(4_096), short: Pages::for_bytes(4_096), long: Pages::for_bytes(1 << 20), calls: Cell::new(0) };
     for (w, h) in (0..=12).flat_map(|w| (0..=12).map(move |h| (w, h))) {
-        small_area(&room, w, h);
-        windows(&room, w.max(1), h.max(1));
+        small_area(&room, Area::new(w, h));
+        windows(&room, Area::new(w.max(1), h.max(1)));
+        windows(&room, Area::new(w.max(1), h.max(1)).at(-6, 1_000_000));
+    }
+    for (ox, oy) in [(-6, 1_000_000), (-1_000_001, 0), (0, i32::MIN + 2), (i32::MAX - 9, 0)] {
+        small_area(&room, Area::new(8, 7).at(ox, oy));
+        windows(&room, Area::new(8, 7).at(ox, oy));
     }
     for (w, h) in [(65535, 1), (1, 65535), (65535, 3), (2, 65535), (300, 200)] {
-        large_area(&room, w, h, &[w as usize * h as usize, 65_535, 65_536]);
+        large_area(&room, Area::new(w, h).at(-100, 1), &[w as usize * h as usize, 65_535, 65_536]);
     }
-    large_area(&room, 65535, 65535, &[0, 12]);
+    large_area(&room, Area::new(65535, 65535).at(1_000_000, -1_000_000), &[0, 12]);
+    large_area(&room, Area::new(65535, 65535).at(i32::MAX, i32::MIN), &[]);
     for (w, h) in [(65536, 1), (1, 65536), (65536, 65536), (u32::MAX, 1), (1, u32::MAX), (u32::MAX, u32::MAX), (0, 65536)] {
-        large_area(&room, w, h, &[0, 1, 65_536]);
+        large_area(&room, Area::new(w, h), &[0, 1, 65_536]);
     }
     ends_where_wrong(&room, 4_096, 4_096, 64);
     ends_where_wrong(&room, 65_535, 65_535, 4);

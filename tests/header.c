@@ -19,41 +19,65 @@ static void expect(int holds, const char *what) {
 #define EXPECT(fact) expect((fact), #fact)
 
 static void lookups(void) {
-    uint32_t found[UVALINDA_SQUARE_PLACES];
-    EXPECT(uvalinda_number_to_square(3, 4, 8, found, UVALINDA_SQUARE_PLACES) == UVALINDA_ANSWERED);
+    int32_t found[UVALINDA_SQUARE_PLACES];
+    uint32_t number[UVALINDA_NUMBER_PLACES];
+    EXPECT(uvalinda_number_to_square(3, 4, 0, 0, 8, found, UVALINDA_SQUARE_PLACES) == UVALINDA_ANSWERED);
     EXPECT(found[0] == 2 && found[1] == 1 && found[2] == 3);
-    EXPECT(uvalinda_number_to_square(3, 4, 12, found, UVALINDA_SQUARE_PLACES) == UVALINDA_NUMBER_OUTSIDE);
+    EXPECT(uvalinda_number_to_square(3, 4, 0, 0, 12, found, UVALINDA_SQUARE_PLACES) == UVALINDA_NUMBER_OUTSIDE);
     EXPECT(found[0] == 0 && found[1] == 0 && found[2] == 0);
-    EXPECT(uvalinda_number_to_square(65536, 1, 0, found, UVALINDA_SQUARE_PLACES) == UVALINDA_AREA_LIMIT);
-    EXPECT(uvalinda_number_to_square(3, 4, 8, NULL, 0) == UVALINDA_SHORT_RESULT);
-    EXPECT(uvalinda_number_to_square(3, 4, 8, found, UVALINDA_SQUARE_PLACES - 1) == UVALINDA_SHORT_RESULT);
-    EXPECT(uvalinda_square_to_number(4, 3, 2, 1, found, UVALINDA_NUMBER_PLACES) == UVALINDA_ANSWERED);
-    EXPECT(found[0] == 9 && found[1] == 3);
-    EXPECT(uvalinda_square_to_number(4, 3, 4, 0, found, UVALINDA_NUMBER_PLACES) == UVALINDA_SQUARE_OUTSIDE);
-    EXPECT(uvalinda_square_to_number(4, 3, 2, 1, found, UVALINDA_NUMBER_PLACES - 1) == UVALINDA_SHORT_RESULT);
-    EXPECT(uvalinda_finish_square(5, 2, found, UVALINDA_FINISH_PLACES) == UVALINDA_ANSWERED);
+    EXPECT(uvalinda_number_to_square(65536, 1, 0, 0, 0, found, UVALINDA_SQUARE_PLACES) == UVALINDA_AREA_LIMIT);
+    EXPECT(uvalinda_number_to_square(3, 4, 0, 0, 8, NULL, 0) == UVALINDA_SHORT_RESULT);
+    EXPECT(uvalinda_number_to_square(3, 4, 0, 0, 8, found, UVALINDA_SQUARE_PLACES - 1) == UVALINDA_SHORT_RESULT);
+    EXPECT(uvalinda_square_to_number(4, 3, 0, 0, 2, 1, number, UVALINDA_NUMBER_PLACES) == UVALINDA_ANSWERED);
+    EXPECT(number[0] == 9 && number[1] == 3);
+    EXPECT(uvalinda_square_to_number(4, 3, 0, 0, 4, 0, number, UVALINDA_NUMBER_PLACES) == UVALINDA_SQUARE_OUTSIDE);
+    EXPECT(uvalinda_square_to_number(4, 3, 0, 0, 2, 1, number, UVALINDA_NUMBER_PLACES - 1) == UVALINDA_SHORT_RESULT);
+    EXPECT(uvalinda_finish_square(5, 2, 0, 0, found, UVALINDA_FINISH_PLACES) == UVALINDA_ANSWERED);
     EXPECT(found[0] == 3 && found[1] == 0);
-    EXPECT(uvalinda_finish_square(1, 7, found, UVALINDA_FINISH_PLACES) == UVALINDA_ANSWERED);
+    EXPECT(uvalinda_finish_square(1, 7, 0, 0, found, UVALINDA_FINISH_PLACES) == UVALINDA_ANSWERED);
     EXPECT(found[0] == 0 && found[1] == 6);
-    EXPECT(uvalinda_finish_square(65535, 65535, found, UVALINDA_FINISH_PLACES) == UVALINDA_ANSWERED);
+    EXPECT(uvalinda_finish_square(65535, 65535, 0, 0, found, UVALINDA_FINISH_PLACES) == UVALINDA_ANSWERED);
     EXPECT(found[0] == 65534 && found[1] == 0);
-    EXPECT(uvalinda_finish_square(0, 5, found, UVALINDA_FINISH_PLACES) == UVALINDA_AREA_LIMIT);
+    EXPECT(uvalinda_finish_square(0, 5, 0, 0, found, UVALINDA_FINISH_PLACES) == UVALINDA_AREA_LIMIT);
     EXPECT(found[0] == 0 && found[1] == 0);
-    EXPECT(uvalinda_finish_square(0, 5, found, UVALINDA_FINISH_PLACES - 1) == UVALINDA_SHORT_RESULT);
+    EXPECT(uvalinda_finish_square(0, 5, 0, 0, found, UVALINDA_FINISH_PLACES - 1) == UVALINDA_SHORT_RESULT);
     EXPECT(UVALINDA_TOO_DEEP == 9);
+}
+
+/* Squares of the site, west and south of its post too: the same area as above, and the refusal of an origin, directly after that of an area. */
+static void origins(void) {
+    int32_t found[UVALINDA_SQUARE_PLACES];
+    uint32_t number[UVALINDA_NUMBER_PLACES];
+    EXPECT(uvalinda_number_to_square(3, 4, -5, 7, 8, found, UVALINDA_SQUARE_PLACES) == UVALINDA_ANSWERED);
+    EXPECT(found[0] == -3 && found[1] == 8 && found[2] == 3);
+    EXPECT(uvalinda_square_to_number(3, 4, -5, 7, -3, 8, number, UVALINDA_NUMBER_PLACES) == UVALINDA_ANSWERED);
+    EXPECT(number[0] == 8 && number[1] == 3);
+    EXPECT(uvalinda_square_to_number(3, 4, -5, 7, -6, 8, number, UVALINDA_NUMBER_PLACES) == UVALINDA_SQUARE_OUTSIDE);
+    EXPECT(uvalinda_square_to_number(3, 4, 1000000, 0, INT32_MIN, 0, number, UVALINDA_NUMBER_PLACES) == UVALINDA_SQUARE_OUTSIDE);
+    EXPECT(uvalinda_finish_square(3, 4, -1000000, 1000000, found, UVALINDA_FINISH_PLACES) == UVALINDA_ANSWERED);
+    EXPECT(found[0] == -999998 && found[1] == 1000000);
+    EXPECT(uvalinda_finish_square(3, 4, -1000001, 0, found, UVALINDA_FINISH_PLACES) == UVALINDA_ORIGIN_LIMIT);
+    EXPECT(found[0] == 0 && found[1] == 0);
+    EXPECT(uvalinda_number_to_square(3, 4, 0, 1000001, 12, found, UVALINDA_SQUARE_PLACES) == UVALINDA_ORIGIN_LIMIT);
+    EXPECT(uvalinda_square_to_number(3, 4, INT32_MAX, 0, -1, 0, number, UVALINDA_NUMBER_PLACES) == UVALINDA_ORIGIN_LIMIT);
+    EXPECT(uvalinda_square_to_number(0, 4, INT32_MAX, 0, -1, 0, number, UVALINDA_NUMBER_PLACES) == UVALINDA_AREA_LIMIT);
 }
 
 /* What a caller does who does not know how much room to lend: it asks with none, and again with as much as it was told. */
 static void windows(void) {
     uint32_t count[UVALINDA_RUNS_PLACES], runs[5] = {7, 7, 7, 7, 7};
-    EXPECT(uvalinda_runs_for_window(3, 4, 0, 0, 1, 1, NULL, 0, count, UVALINDA_RUNS_PLACES) == UVALINDA_NO_ROOM && count[0] == 2);
-    EXPECT(uvalinda_runs_for_window(3, 4, 0, 0, 1, 1, runs, 3, count, UVALINDA_RUNS_PLACES) == UVALINDA_NO_ROOM && count[0] == 2 && runs[0] == 7);
-    EXPECT(uvalinda_runs_for_window(3, 4, 0, 0, 1, 1, runs, 2 * (size_t)count[0], count, UVALINDA_RUNS_PLACES) == UVALINDA_ANSWERED && count[0] == 2);
+    EXPECT(uvalinda_runs_for_window(3, 4, 0, 0, 0, 0, 1, 1, NULL, 0, count, UVALINDA_RUNS_PLACES) == UVALINDA_NO_ROOM && count[0] == 2);
+    EXPECT(uvalinda_runs_for_window(3, 4, 0, 0, 0, 0, 1, 1, runs, 3, count, UVALINDA_RUNS_PLACES) == UVALINDA_NO_ROOM && count[0] == 2 && runs[0] == 7);
+    EXPECT(uvalinda_runs_for_window(3, 4, 0, 0, 0, 0, 1, 1, runs, 2 * (size_t)count[0], count, UVALINDA_RUNS_PLACES) == UVALINDA_ANSWERED && count[0] == 2);
     EXPECT(runs[0] == 0 && runs[1] == 1 && runs[2] == 9 && runs[3] == 10 && runs[4] == 7);
-    EXPECT(uvalinda_runs_for_window(3, 4, 1, 0, 0, 9, runs, 5, count, UVALINDA_RUNS_PLACES) == UVALINDA_CORNERS_CROSSED && count[0] == 0);
-    EXPECT(uvalinda_runs_for_window(3, 4, 0, 0, 3, 0, runs, 5, count, UVALINDA_RUNS_PLACES) == UVALINDA_SQUARE_OUTSIDE);
-    EXPECT(uvalinda_runs_for_window(0, 4, 1, 0, 0, 0, runs, 5, count, UVALINDA_RUNS_PLACES) == UVALINDA_AREA_LIMIT);
-    EXPECT(uvalinda_runs_for_window(3, 4, 0, 0, 2, 3, runs, 5, NULL, 0) == UVALINDA_SHORT_RESULT && runs[1] == 1);
+    EXPECT(uvalinda_runs_for_window(3, 4, 0, 0, 1, 0, 0, 9, runs, 5, count, UVALINDA_RUNS_PLACES) == UVALINDA_CORNERS_CROSSED && count[0] == 0);
+    EXPECT(uvalinda_runs_for_window(3, 4, 0, 0, 0, 0, 3, 0, runs, 5, count, UVALINDA_RUNS_PLACES) == UVALINDA_SQUARE_OUTSIDE);
+    EXPECT(uvalinda_runs_for_window(0, 4, 0, 0, 1, 0, 0, 0, runs, 5, count, UVALINDA_RUNS_PLACES) == UVALINDA_AREA_LIMIT);
+    EXPECT(uvalinda_runs_for_window(3, 4, 0, 0, 0, 0, 2, 3, runs, 5, NULL, 0) == UVALINDA_SHORT_RESULT && runs[1] == 1);
+    EXPECT(uvalinda_runs_for_window(3, 4, -5, 7, -4, 8, -3, 10, runs, 5, count, UVALINDA_RUNS_PLACES) == UVALINDA_ANSWERED && count[0] == 1);
+    EXPECT(runs[0] == 4 && runs[1] == 9 && runs[2] == 9);
+    EXPECT(uvalinda_runs_for_window(3, 4, -5, 7, 0, 0, 1, 1, runs, 5, count, UVALINDA_RUNS_PLACES) == UVALINDA_SQUARE_OUTSIDE);
+    EXPECT(uvalinda_runs_for_window(3, 4, -1000001, 7, 1, 0, 0, 9, runs, 5, count, UVALINDA_RUNS_PLACES) == UVALINDA_ORIGIN_LIMIT);
 }
 
 static void tables(void) {
@@ -84,31 +108,48 @@ static void tables(void) {
 }
 
 /* One line of an order form, under the area that the line before it left. */
-static uint32_t handle(const char *line, uint32_t *now) {
-    return uvalinda_handle_line(now[0], now[1], (const uint8_t *)line, strlen(line), now, UVALINDA_LINE_PLACES);
+static uint32_t handle(const char *line, int64_t *now) {
+    return uvalinda_handle_line((uint32_t)now[0], (uint32_t)now[1], (int32_t)now[2], (int32_t)now[3], (const uint8_t *)line, strlen(line), now,
+                                UVALINDA_LINE_PLACES);
+}
+
+/* Whether the area in force and its origin are these, and the reply. */
+static int in_force(const int64_t *now, int64_t w, int64_t h, int64_t ox, int64_t oy) {
+    return now[0] == w && now[1] == h && now[2] == ox && now[3] == oy;
+}
+
+static int replied(const int64_t *now, int64_t kind, int64_t first, int64_t second, int64_t third) {
+    return now[4] == kind && now[5] == first && now[6] == second && now[7] == third;
 }
 
 static void lines(void) {
-    uint32_t now[UVALINDA_LINE_PLACES] = {0, 0, 0, 0, 0, 0};
+    int64_t now[UVALINDA_LINE_PLACES] = {0, 0, 0, 0, 0, 0, 0, 0};
     EXPECT(handle("N 8", now) == UVALINDA_NO_AREA);
     EXPECT(handle("AREA 3 4", now) == UVALINDA_ANSWERED);
-    EXPECT(now[0] == 3 && now[1] == 4 && now[2] == UVALINDA_REPLY_AREA && now[3] == 12 && now[4] == 2 && now[5] == 0);
-    EXPECT(handle("N 8", now) == UVALINDA_ANSWERED);
-    EXPECT(now[2] == UVALINDA_REPLY_CELL && now[3] == 2 && now[4] == 1 && now[5] == 3);
-    EXPECT(handle("S 2 1", now) == UVALINDA_ANSWERED);
-    EXPECT(now[2] == UVALINDA_REPLY_NUMBER && now[3] == 8 && now[4] == 3 && now[5] == 0);
+    EXPECT(in_force(now, 3, 4, 0, 0) && replied(now, UVALINDA_REPLY_AREA, 12, 2, 0));
+    EXPECT(handle("N 8", now) == UVALINDA_ANSWERED && replied(now, UVALINDA_REPLY_CELL, 2, 1, 3));
+    EXPECT(handle("S 2 1", now) == UVALINDA_ANSWERED && replied(now, UVALINDA_REPLY_NUMBER, 8, 3, 0));
     EXPECT(handle("N 3E4", now) == UVALINDA_NOT_A_NUMBER);
-    EXPECT(now[0] == 3 && now[1] == 4 && now[2] == UVALINDA_REPLY_REFUSED && now[3] == 0 && now[4] == 0 && now[5] == 0);
+    EXPECT(in_force(now, 3, 4, 0, 0) && replied(now, UVALINDA_REPLY_REFUSED, 0, 0, 0));
     EXPECT(handle("", now) == UVALINDA_WRONG_SHAPE);
     EXPECT(handle("N 00000000000000000000000000000000000000000000000000000000000000000", now) == UVALINDA_LONG_LINE);
-    EXPECT(handle("AREA 0 4", now) == UVALINDA_AREA_LIMIT);
-    EXPECT(now[0] == 0 && now[1] == 0);
-    EXPECT(uvalinda_handle_line(3, 4, NULL, 0, now, UVALINDA_LINE_PLACES) == UVALINDA_WRONG_SHAPE);
-    EXPECT(uvalinda_handle_line(3, 4, NULL, 0, now, UVALINDA_LINE_PLACES - 1) == UVALINDA_SHORT_RESULT);
+    EXPECT(handle("ORIGIN -5 0000000007", now) == UVALINDA_ANSWERED);
+    EXPECT(in_force(now, 3, 4, -5, 7) && replied(now, UVALINDA_REPLY_ORIGIN, -5, 7, 0));
+    EXPECT(handle("N 8", now) == UVALINDA_ANSWERED && replied(now, UVALINDA_REPLY_CELL, -3, 8, 3));
+    EXPECT(handle("S -3 8", now) == UVALINDA_ANSWERED && replied(now, UVALINDA_REPLY_NUMBER, 8, 3, 0));
+    EXPECT(handle("S -0 8", now) == UVALINDA_NOT_A_NUMBER && in_force(now, 3, 4, -5, 7));
+    EXPECT(handle("AREA 3 4", now) == UVALINDA_ANSWERED && in_force(now, 3, 4, 0, 0));
+    EXPECT(handle("ORIGIN 0 1000001", now) == UVALINDA_ORIGIN_LIMIT && in_force(now, 0, 0, 0, 0));
+    EXPECT(handle("ORIGIN 0 1", now) == UVALINDA_NO_AREA);
+    EXPECT(handle("AREA 0 4", now) == UVALINDA_AREA_LIMIT && in_force(now, 0, 0, 0, 0));
+    EXPECT(handle("AREA 65535 65535", now) == UVALINDA_ANSWERED && replied(now, UVALINDA_REPLY_AREA, 4294836225, 65534, 0));
+    EXPECT(uvalinda_handle_line(3, 4, 0, 0, NULL, 0, now, UVALINDA_LINE_PLACES) == UVALINDA_WRONG_SHAPE);
+    EXPECT(uvalinda_handle_line(3, 4, 0, 0, NULL, 0, now, UVALINDA_LINE_PLACES - 1) == UVALINDA_SHORT_RESULT);
 }
 
 int main(void) {
     lookups();
+    origins();
     windows();
     tables();
     lines();

@@ -157,6 +157,42 @@ pub fn traversal(w: i64, h: i64) -> Vec<(Square, i64)> {
     curve(whole(w, h)).into_iter().map(|s| (s, count(s))).collect()
 }
 
+// An area with its origin on the site's grid: document 02, order 6.
+#[derive(Clone, Copy, Debug, PartialEq)]
+pub struct Area {
+    pub w: i64,
+    pub h: i64,
+    pub ox: i64,
+    pub oy: i64,
+}
+
+impl Area {
+    // An area whose squares count from (0, 0).
+    pub fn new(w: i64, h: i64) -> Area {
+        Area { w, h, ox: 0, oy: 0 }
+    }
+
+    // The square of the site for one that counts from (0, 0), origin plus the old square; and back.
+    fn on_site(self, s: Square) -> Square {
+        Square { x: self.ox + s.x, y: self.oy + s.y }
+    }
+
+    fn from_site(self, s: Square) -> Square {
+        Square { x: s.x - self.ox, y: s.y - self.oy }
+    }
+
+    // Whether a square of the site is one of the area.
+    fn has(self, s: Square) -> bool {
+        let old = self.from_site(s);
+        (0..self.w).contains(&old.x) && (0..self.h).contains(&old.y)
+    }
+
+    // The area as a block; blocks count from (0, 0) whatever the origin is.
+    fn whole(self) -> Block {
+        whole(self.w, self.h)
+    }
+}
+
 // An answer: the refusal's number, or the values.
 pub type Answer = Result<Vec<i64>, i64>;
 
@@ -164,38 +200,44 @@ pub fn accepted(w: i64, h: i64) -> bool {
     (1..=65535).contains(&w) && (1..=65535).contains(&h)
 }
 
-pub fn number_to_square(w: i64, h: i64, number: i64) -> Answer {
-    if !accepted(w, h) {
+// Why a call that asks or answers squares is refused for its area, if it is: 1, and directly after it 12.
+pub fn granted(area: Area) -> Result<(), i64> {
+    let in_range = |c: i64| (-1_000_000..=1_000_000).contains(&c);
+    if !accepted(area.w, area.h) {
         return Err(1);
     }
-    if number >= w * h {
+    if in_range(area.ox) && in_range(area.oy) { Ok(()) } else { Err(12) }
+}
+
+pub fn number_to_square(area: Area, number: i64) -> Answer {
+    granted(area)?;
+    if number >= area.w * area.h {
         return Err(3);
     }
-    let (s, count) = square_of(whole(w, h), number);
+    let (s, count) = square_of(area.whole(), number);
+    let s = area.on_site(s);
     if count > 64 { Err(9) } else { Ok(vec![s.x, s.y, count]) }
 }
 
-pub fn square_to_number(w: i64, h: i64, x: i64, y: i64) -> Answer {
-    if !accepted(w, h) {
-        return Err(1);
-    }
-    if x >= w || y >= h {
+pub fn square_to_number(area: Area, x: i64, y: i64) -> Answer {
+    granted(area)?;
+    let s = Square { x, y };
+    if !area.has(s) {
         return Err(2);
     }
-    let (n, count) = number_of(whole(w, h), Square { x, y });
+    let (n, count) = number_of(area.whole(), area.from_site(s));
     if count > 64 { Err(9) } else { Ok(vec![n, count]) }
 }
 
 // The square of number w·h - 1.
-pub fn finish_square(w: i64, h: i64) -> Answer {
-    if !accepted(w, h) {
-        return Err(1);
-    }
-    let (s, _) = square_of(whole(w, h), w * h - 1);
+pub fn finish_square(area: Area) -> Answer {
+    granted(area)?;
+    let (s, _) = square_of(area.whole(), area.w * area.h - 1);
+    let s = area.on_site(s);
     Ok(vec![s.x, s.y])
 }
 
-// A window by its corners.
+// A window by its corners, which are squares of the site.
 #[derive(Clone, Copy, Debug)]
 pub struct Window {
     pub x0: i64,
@@ -207,6 +249,13 @@ pub struct Window {
 impl Window {
     fn has(self, s: Square) -> bool {
         self.x0 <= s.x && s.x <= self.x1 && self.y0 <= s.y && s.y <= self.y1
+    }
+
+    // The window as an area's blocks have it, whose squares count from (0, 0).
+    fn within(self, area: Area) -> Window {
+        let from = area.from_site(Square { x: self.x0, y: self.y0 });
+        let to = area.from_site(Square { x: self.x1, y: self.y1 });
+        Window { x0: from.x, y0: from.y, x1: to.x, y1: to.y }
     }
 
     // Whether a square of the block lies in the window.
@@ -235,36 +284,36 @@ fn runs_of(numbers: impl Iterator<Item = i64>) -> Vec<(i64, i64)> {
 }
 
 // The runs of a window by brute force, over all squares of a small area in the order of their numbers.
-pub fn runs_by_squares(w: i64, h: i64, window: Window) -> Vec<(i64, i64)> {
-    runs_of(curve(whole(w, h)).into_iter().enumerate().filter(|(_, s)| window.has(*s)).map(|(n, _)| n as i64))
+pub fn runs_by_squares(area: Area, window: Window) -> Vec<(i64, i64)> {
+    runs_of(curve(area.whole()).into_iter().enumerate().filter(|(_, s)| window.has(area.on_site(*s))).map(|(n, _)| n as i64))
 }
 
 // The same where the area is too large to list: the numbers of the window's squares, sorted.
-pub fn runs_by_numbers(w: i64, h: i64, window: Window) -> Vec<(i64, i64)> {
+pub fn runs_by_numbers(area: Area, window: Window) -> Vec<(i64, i64)> {
     let mut numbers: Vec<i64> = vec![];
     for y in window.y0..=window.y1 {
-        numbers.extend((window.x0..=window.x1).map(|x| number_of(whole(w, h), Square { x, y }).0));
+        numbers.extend((window.x0..=window.x1).map(|x| number_of(area.whole(), area.from_site(Square { x, y })).0));
     }
     numbers.sort_unstable();
     runs_of(numbers.into_iter())
 }
 
 // What the call for a window answers, given its runs: the refusal's number, and how many runs it tells of; and the runs that are written.
-pub fn window_answer(w: i64, h: i64, window: Window, places: usize, runs: impl Fn() -> Vec<(i64, i64)>) -> (i64, i64, Vec<(i64, i64)>) {
-    if !accepted(w, h) {
-        return (1, 0, vec![]);
+pub fn window_answer(area: Area, window: Window, places: usize, runs: impl Fn() -> Vec<(i64, i64)>) -> (i64, i64, Vec<(i64, i64)>) {
+    if let Err(refusal) = granted(area) {
+        return (refusal, 0, vec![]);
     }
     if window.x0 > window.x1 || window.y0 > window.y1 {
         return (10, 0, vec![]);
     }
-    if window.x0 >= w || window.y0 >= h || window.x1 >= w || window.y1 >= h {
+    if !area.has(Square { x: window.x0, y: window.y0 }) || !area.has(Square { x: window.x1, y: window.y1 }) {
         return (2, 0, vec![]);
     }
     let runs = runs();
     if runs.len() > places / 2 {
         return (11, runs.len() as i64, vec![]);
     }
-    if deepest_in(whole(w, h), window) > 64 {
+    if deepest_in(area.whole(), window.within(area)) > 64 {
         return (9, 0, vec![]);
     }
     (0, runs.len() as i64, runs)
@@ -325,33 +374,60 @@ fn number(field: &[u8]) -> Option<i64> {
     (value <= 4294967295).then_some(value)
 }
 
+// A field of an ORIGIN or an S line: a minus may stand before the digits. There -0, padded or not, and a magnitude over 2,147,483,647 are no numbers.
+fn signed(field: &[u8]) -> Option<i64> {
+    let magnitude = number(field.strip_prefix(b"-").unwrap_or(field)).filter(|&m| m <= 2147483647)?;
+    match (field[0], magnitude) {
+        (b'-', 0) => None,
+        (b'-', _) => Some(-magnitude),
+        _ => Some(magnitude),
+    }
+}
+
 // What a line is answered.
 pub enum Reply {
     Area { w: i64, h: i64, squares: i64, x: i64, y: i64 },
+    Origin { ox: i64, oy: i64 },
     Cell { x: i64, y: i64, blocks: i64 },
     Number { number: i64, blocks: i64 },
     Refused(i64),
 }
 
-// The reply to a line under an area, and the area in force after it.
-pub fn answered(line: &[u8], area: Option<(i64, i64)>) -> (Reply, Option<(i64, i64)>) {
+// What a line asks: its word, and the numbers of its fields.
+fn read(line: &[u8]) -> Result<(&[u8], Vec<i64>), i64> {
     let fields: Vec<&[u8]> = line.split(|&b| b == b' ').collect();
-    let after_refusal = if line.starts_with(b"AREA") { None } else { area };
-    let shaped = matches!((fields[0], fields.len()), (b"AREA", 3) | (b"N", 2) | (b"S", 3)) && fields.iter().all(|f| !f.is_empty());
-    let numbers: Option<Vec<i64>> = fields[1..].iter().map(|f| number(f)).collect();
-    let answer = match (line.len() > 64, shaped, numbers, fields[0], area) {
+    let shaped = matches!((fields[0], fields.len()), (b"AREA" | b"ORIGIN" | b"S", 3) | (b"N", 2)) && fields.iter().all(|f| !f.is_empty());
+    let minus_allowed = matches!(fields[0], b"ORIGIN" | b"S");
+    let numbers: Option<Vec<i64>> = fields[1..].iter().map(|f| if minus_allowed { signed(f) } else { number(f) }).collect();
+    match (line.len() > 64, shaped, numbers) {
         (true, ..) => Err(8),
-        (_, false, ..) => Err(6),
-        (_, _, None, ..) => Err(5),
-        (_, _, Some(n), b"AREA", _) => {
-            return match finish_square(n[0], n[1]) {
-                Ok(s) => (Reply::Area { w: n[0], h: n[1], squares: n[0] * n[1], x: s[0], y: s[1] }, Some((n[0], n[1]))),
-                Err(refusal) => (Reply::Refused(refusal), None),
-            };
+        (_, false, _) => Err(6),
+        (_, _, None) => Err(5),
+        (_, _, Some(n)) => Ok((fields[0], n)),
+    }
+}
+
+// The reply to a line under an area and the area in force after it, or the refusal's number.
+fn accepted_line(line: &[u8], area: Option<Area>) -> Result<(Reply, Option<Area>), i64> {
+    let (word, n) = read(line)?;
+    if word == b"AREA" {
+        let set = Area::new(n[0], n[1]);
+        let s = finish_square(set)?;
+        return Ok((Reply::Area { w: set.w, h: set.h, squares: set.w * set.h, x: s[0], y: s[1] }, Some(set)));
+    }
+    let area = area.ok_or(7)?;
+    match word {
+        b"N" => number_to_square(area, n[0]).map(|v| (Reply::Cell { x: v[0], y: v[1], blocks: v[2] }, Some(area))),
+        b"S" => square_to_number(area, n[0], n[1]).map(|v| (Reply::Number { number: v[0], blocks: v[1] }, Some(area))),
+        _ => {
+            let set = Area { ox: n[0], oy: n[1], ..area };
+            granted(set).map(|()| (Reply::Origin { ox: set.ox, oy: set.oy }, Some(set)))
         }
-        (.., None) => Err(7),
-        (_, _, Some(n), b"N", Some((w, h))) => number_to_square(w, h, n[0]).map(|v| Reply::Cell { x: v[0], y: v[1], blocks: v[2] }),
-        (_, _, Some(n), _, Some((w, h))) => square_to_number(w, h, n[0], n[1]).map(|v| Reply::Number { number: v[0], blocks: v[1] }),
-    };
-    (answer.unwrap_or_else(Reply::Refused), after_refusal)
+    }
+}
+
+// The reply to a line under an area, and the area in force after it.
+pub fn answered(line: &[u8], area: Option<Area>) -> (Reply, Option<Area>) {
+    let clears = line.starts_with(b"AREA") || line.starts_with(b"ORIGIN");
+    accepted_line(line, area).unwrap_or_else(|refusal| (Reply::Refused(refusal), if clears { None } else { area }))
 }

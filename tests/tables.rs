@@ -8,7 +8,7 @@ mod random;
 #[path = "../bindings/rust/src/raw.rs"]
 mod raw;
 
-use expected::{due, UNTOUCHED};
+use expected::{due, told, UNTOUCHED};
 use random::Random;
 
 // How many places there are around a table.
@@ -55,7 +55,7 @@ impl Due {
         let mut found = [UNTOUCHED; 4];
         let call = if self.by_square { raw::uvalinda_check_by_square } else { raw::uvalinda_check_by_number };
         let returned = unsafe { call(self.w, self.h, table.as_ptr(), table.len(), found.as_mut_ptr(), found.len()) };
-        let told = (returned, found.map(u64::from).to_vec());
+        let told = told(returned, found.to_vec());
         if told != due(&Ok(answer), 3, found.len()) {
             let wrong: Vec<usize> = (0..table.len()).filter(|&i| table[i] != self.table[i]).collect();
             panic!("a check of {}, wrong in {wrong:?}, told {told:?}", self.asked());

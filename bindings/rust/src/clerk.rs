@@ -6,12 +6,19 @@ use crate::{raw, refusal, Area, Cell, Number, Refusal, Square};
 pub enum Reply {
     /// An `AREA` line: the area now in force.
     Area {
-        /// The area.
+        /// The area, whose origin is (0, 0).
         area: Area,
         /// How many squares it has.
         squares: u32,
         /// Its finish square.
         finish: Square,
+    },
+    /// An `ORIGIN` line: the origin that the area in force now has.
+    Origin {
+        /// The least x of its squares.
+        ox: i32,
+        /// The least y of its squares.
+        oy: i32,
     },
     /// An `N` line: the square of the number.
     Cell(Cell),
@@ -19,7 +26,7 @@ pub enum Reply {
     Number(Number),
 }
 
-/// The order clerk, who knows the area in force. There is none at the start.
+/// The order clerk, who knows the area in force and its origin. There is none at the start.
 ///
 /// ```
 /// use uvalinda::{Area, Cell, Clerk, Refusal, Reply};
@@ -31,55 +38,59 @@ pub enum Reply {
 /// assert_eq!(clerk.handle(b"N 0000000008"), clerk.handle(b"N 8"));
 /// assert_eq!(clerk.handle(b"N 08"), Err(Refusal::NotANumber));
 /// assert_eq!(clerk.handle(b"N 3E4"), Err(Refusal::NotANumber));
-/// assert_eq!(clerk.area(), Some(Area { w: 3, h: 4 }));
+/// assert_eq!(clerk.handle(b"ORIGIN -5 7"), Ok(Reply::Origin { ox: -5, oy: 7 }));
+/// assert_eq!(clerk.handle(b"N 8"), Ok(Reply::Cell(Cell { x: -3, y: 8, blocks: 3 })));
+/// assert_eq!(clerk.area(), Some(Area::new(3, 4).at(-5, 7)));
 /// assert_eq!(clerk.handle(b"AREA 0 4"), Err(Refusal::AreaLimit));
 /// assert_eq!(clerk.area(), None);
 /// ```
 #[derive(Clone, Copy, Debug, PartialEq, Eq, Hash, Default)]
 pub struct Clerk {
-    // As the library keeps it: 0 and 0 for none.
-    w: u32,
-    h: u32,
+    area: Option<Area>,
 }
 
 impl Clerk {
     /// A clerk with no area in force.
     pub const fn new() -> Clerk {
-        Clerk { w: 0, h: 0 }
+        Clerk { area: None }
     }
 
-    /// A clerk with this area in force, or with none where the area is not accepted.
+    /// A clerk with this area in force, or with none where the area is not accepted or its origin is beyond the range.
     ///
     /// ```
     /// # use uvalinda::{Area, Clerk};
-    /// assert_eq!(Clerk::under(Area { w: 3, h: 4 }).area(), Some(Area { w: 3, h: 4 }));
-    /// assert_eq!(Clerk::under(Area { w: 3, h: 0 }).area(), None);
+    /// assert_eq!(Clerk::under(Area::new(3, 4).at(-5, 7)).area(), Some(Area::new(3, 4).at(-5, 7)));
+    /// assert_eq!(Clerk::under(Area::new(3, 0)).area(), None);
+    /// assert_eq!(Clerk::under(Area::new(3, 4).at(0, 1_000_001)).area(), None);
     /// ```
     pub fn under(area: Area) -> Clerk {
-        match area.finish_square() {
-            Ok(_) => Clerk { w: area.w, h: area.h },
-            Err(_) => Clerk::new(),
-        }
+        // An area that has a finish square is one that can be in force.
+        Clerk { area: area.finish_square().ok().map(|_| area) }
     }
 
     /// The area in force.
     pub fn area(&self) -> Option<Area> {
-        (self.w != 0).then_some(Area { w: self.w, h: self.h })
+        self.area
     }
 
-    /// Answers a line: `AREA w h`, `N i` or `S x y`, any bytes, without the newline. An accepted `AREA` line sets the area in force, a refused
-    /// line whose first four bytes are `AREA` leaves none, and no other line alters it. A number is plain, as `30`, or padded with zeros to exactly
-    /// ten digits, as `0000000030`.
+    /// Answers a line: `AREA w h`, `ORIGIN ox oy`, `N i` or `S x y`, any bytes, without the newline. An accepted `AREA` line sets the area in force, with the
+    /// origin (0, 0), and an accepted `ORIGIN` line its origin; a refused line whose first bytes are `AREA` or `ORIGIN` leaves no area, and no other line
+    /// alters it. A number is plain, as `30`, or padded with zeros to exactly ten digits, as `0000000030`; those of `ORIGIN` and `S` may carry a minus.
     pub fn handle(&mut self, line: &[u8]) -> Result<Reply, Refusal> {
-        let mut now = [0; 6];
+        // As the library keeps it: 0 each for none.
+        let Area { w, h, ox, oy } = self.area.unwrap_or(Area::new(0, 0));
+        let mut now = [0; 8];
         // SAFETY: the slice and the array are passed with their own lengths.
-        let returned = unsafe { raw::uvalinda_handle_line(self.w, self.h, line.as_ptr(), line.len(), now.as_mut_ptr(), now.len()) };
-        let [w, h, kind, values @ ..] = now;
-        *self = Clerk { w, h };
+        let returned = unsafe { raw::uvalinda_handle_line(w, h, ox, oy, line.as_ptr(), line.len(), now.as_mut_ptr(), now.len()) };
+        // By the library's promise each value is one of the 32-bit type that it is taken for here.
+        let [w, h, ox, oy, kind, values @ ..] = now;
+        let area = Area { w: w as u32, h: h as u32, ox: ox as i32, oy: oy as i32 };
+        self.area = (w != 0).then_some(area);
         refusal::unless_refused(returned, values, |[first, second, third]| match kind {
-            1 => Reply::Area { area: Area { w, h }, squares: first, finish: Square { x: second, y: third } },
-            2 => Reply::Cell(Cell { x: first, y: second, blocks: third }),
-            3 => Reply::Number(Number { number: first, blocks: second }),
+            1 => Reply::Area { area, squares: first as u32, finish: Square { x: second as i32, y: third as i32 } },
+            2 => Reply::Cell(Cell { x: first as i32, y: second as i32, blocks: third as u32 }),
+            3 => Reply::Number(Number { number: first as u32, blocks: second as u32 }),
+            4 => Reply::Origin { ox: first as i32, oy: second as i32 },
             // The library's promise has no other kind.
             _ => unreachable!("the library answered with a reply of kind {kind}"),
         })

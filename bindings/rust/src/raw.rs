@@ -6,9 +6,9 @@
 //! the same call is lent. Nothing else is asked.
 
 extern "C" {
-    pub fn uvalinda_number_to_square(w: u32, h: u32, number: u32, result: *mut u32, result_length: usize) -> u32;
-    pub fn uvalinda_square_to_number(w: u32, h: u32, x: u32, y: u32, result: *mut u32, result_length: usize) -> u32;
-    pub fn uvalinda_finish_square(w: u32, h: u32, result: *mut u32, result_length: usize) -> u32;
+    pub fn uvalinda_number_to_square(w: u32, h: u32, ox: i32, oy: i32, number: u32, result: *mut i32, result_length: usize) -> u32;
+    pub fn uvalinda_square_to_number(w: u32, h: u32, ox: i32, oy: i32, x: i32, y: i32, result: *mut u32, result_length: usize) -> u32;
+    pub fn uvalinda_finish_square(w: u32, h: u32, ox: i32, oy: i32, result: *mut i32, result_length: usize) -> u32;
     pub fn uvalinda_fill_by_number(w: u32, h: u32, table: *mut u32, table_length: usize, blocks: *mut u64, blocks_length: usize) -> u32;
     pub fn uvalinda_fill_by_square(w: u32, h: u32, table: *mut u32, table_length: usize, blocks: *mut u64, blocks_length: usize) -> u32;
     pub fn uvalinda_check_by_number(w: u32, h: u32, table: *const u32, table_length: usize, result: *mut u32, result_length: usize) -> u32;
@@ -16,14 +16,25 @@ extern "C" {
     pub fn uvalinda_runs_for_window(
         w: u32,
         h: u32,
-        x0: u32,
-        y0: u32,
-        x1: u32,
-        y1: u32,
+        ox: i32,
+        oy: i32,
+        x0: i32,
+        y0: i32,
+        x1: i32,
+        y1: i32,
         runs: *mut u32,
         runs_length: usize,
         result: *mut u32,
         result_length: usize,
     ) -> u32;
-    pub fn uvalinda_handle_line(w: u32, h: u32, line: *const u8, line_length: usize, result: *mut u32, result_length: usize) -> u32;
+    pub fn uvalinda_handle_line(
+        w: u32,
+        h: u32,
+        ox: i32,
+        oy: i32,
+        line: *const u8,
+        line_length: usize,
+        result: *mut i64,
+        result_length: usize,
+    ) -> u32;
 }

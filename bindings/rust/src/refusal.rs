@@ -31,11 +31,11 @@ macro_rules! refusals {
         // What `answer` makes of the values that a call wrote, unless it returned a refusal's number. What a refusal tells is the first of the values.
         pub(crate) fn unless_refused<V, const N: usize, T>(returned: u32, values: [V; N], answer: impl FnOnce([V; N]) -> T) -> Result<T, Refusal>
         where
-            V: Copy + Into<u64>,
+            V: Copy + Into<i128>,
         {
             match returned {
                 0 => Ok(answer(values)),
-                $($number => Err(Refusal::$name { $($value: values[0].into())? }),)*
+                $($number => Err(Refusal::$name { $($value: Into::<i128>::into(values[0]) as u64)? }),)*
                 // No result slice of these bindings is too short, and the library's promise has no other number.
                 _ => unreachable!("the library returned {returned}"),
             }
@@ -45,17 +45,18 @@ macro_rules! refusals {
 
 refusals! {
     1 AreaLimit: "w or h is 0 or over 65,535.", "the width or the height is 0 or over 65,535";
-    2 SquareOutside: "x >= w or y >= h, of a square or of a window's corner.", "the square is outside the area";
+    2 SquareOutside: "x - ox or y - oy is negative, x - ox >= w or y - oy >= h, of a square or of a window's corner.", "the square is outside the area";
     3 NumberOutside: "number >= w·h.", "the area has no such number";
     4 TableLength: "The table has not exactly w·h places.", "the table has not as many places as the area has squares";
     5 NotANumber: "A field of a line is not a number.", "a field of the line is not a number";
     6 WrongShape: "A line has the wrong shape.", "the line has the wrong shape";
-    7 NoArea: "An N or S line with no area in force.", "no area is in force";
+    7 NoArea: "An N, S or ORIGIN line with no area in force.", "no area is in force";
     8 LongLine: "A line has over 64 bytes.", "the line has over 64 bytes";
     9 TooDeep: "Over 64 blocks of the division hold a square. It is proved that this never arises.", "over 64 blocks of the division hold the square";
     10 CornersCrossed: "x0 > x1 or y0 > y1.", "the window's corners are crossed";
     11 NoRoom { count: u64, "How many runs there are." }: "There are more runs than whole pairs of room.",
         "there are {count} runs, more than there is room for";
+    12 OriginLimit: "ox or oy is beyond 1,000,000 either way.", "the origin is beyond 1,000,000 either way";
 }
 
 impl core::error::Error for Refusal {}

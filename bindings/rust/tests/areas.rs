@@ -1,8 +1,12 @@
 //! The bindings as a caller uses them: what a lookup says, what a table holds and what the iterator yields agree.
 use uvalinda::{Area, Check, Clerk, Refusal, Reply, Square, Window};
 
+// Areas that begin at (0, 0), ones that lie on both sides of the post, and ones far off.
 fn areas() -> impl Iterator<Item = Area> {
-    (1..=12).flat_map(|w| (1..=12).map(move |h| Area { w, h })).chain([Area { w: 65535, h: 3 }, Area { w: 2, h: 65535 }, Area { w: 300, h: 217 }])
+    let small = (1..=12).flat_map(|w| (1..=12).map(move |h| Area::new(w, h)));
+    let about = small.clone().map(|area| area.at(-(area.w as i32) / 2, 3 - area.h as i32));
+    let far = [Area::new(65535, 3).at(1_000_000, -1_000_000), Area::new(2, 65535), Area::new(300, 217).at(-1_000_000, -100)];
+    small.chain(about).chain(far)
 }
 
 #[test]
@@ -25,7 +29,7 @@ fn tables_hold_what_the_iterator_yields() {
         let squares = area.squares().unwrap();
         assert_eq!(squares.len(), by_number.len());
         for (number, Square { x, y }) in squares.enumerate() {
-            let place = y * area.w + x;
+            let place = (y - area.oy) as u32 * area.w + (x - area.ox) as u32;
             assert_eq!(by_number[number], place, "place {number} of {area:?}");
             assert_eq!(by_square[place as usize], number as u32, "place {place} of {area:?}");
         }
@@ -36,7 +40,7 @@ fn tables_hold_what_the_iterator_yields() {
 
 #[test]
 fn the_iterator_goes_both_ways() {
-    let area = Area { w: 5, h: 4 };
+    let area = Area::new(5, 4);
     let onward: Vec<Square> = area.squares().unwrap().collect();
     let mut backward: Vec<Square> = area.squares().unwrap().rev().collect();
     backward.reverse();
@@ -53,10 +57,10 @@ fn the_iterator_goes_both_ways() {
 
 #[test]
 fn the_finish_square_is_the_last() {
-    for area in areas().chain([Area { w: 65535, h: 2 }, Area { w: 65534, h: 2 }, Area { w: 1, h: 65535 }, Area { w: 65535, h: 65535 }]) {
+    for area in areas().chain([Area::new(65535, 2), Area::new(65534, 2), Area::new(1, 65535), Area::new(65535, 65535)]) {
         let last = area.squares().unwrap().last().unwrap();
         assert_eq!(area.finish_square(), Ok(last), "{area:?}");
-        let corner = Square { x: area.w - 1, y: 0 };
+        let corner = Square { x: area.ox + area.w as i32 - 1, y: area.oy };
         let elsewhere = area.w == 1 && area.h > 1 || area.h == 2 && area.w % 2 == 1 && area.w >= 3;
         assert_eq!(last == corner, !elsewhere, "{area:?}");
     }
@@ -66,8 +70,8 @@ fn the_finish_square_is_the_last() {
 #[test]
 fn runs_are_the_windows_numbers() {
     for area in areas() {
-        let window = Window { x0: area.w / 3, y0: area.h / 3, x1: area.w * 2 / 3, y1: area.h * 2 / 3 };
-        let window = Window { x1: window.x1.min(area.w - 1), y1: window.y1.min(area.h - 1), ..window };
+        let (x, y) = (|x: u32| area.ox + x.min(area.w - 1) as i32, |y: u32| area.oy + y.min(area.h - 1) as i32);
+        let window = Window { x0: x(area.w / 3), y0: y(area.h / 3), x1: x(area.w * 2 / 3), y1: y(area.h * 2 / 3) };
         let count = area.count_runs(window).unwrap();
         let mut room = vec![[u32::MAX; 2]; count as usize + 1];
         assert_eq!(area.runs_for_window(window, &mut room[..count as usize - 1]), Err(Refusal::NoRoom { count: count.into() }), "{area:?}");
@@ -83,27 +87,30 @@ fn runs_are_the_windows_numbers() {
 
 #[test]
 fn a_refused_window_leaves_the_room() {
-    let area = Area { w: 3, h: 4 };
+    let area = Area::new(3, 4);
     let mut room = [[7; 2]; 4];
     for (window, refusal) in [
         (Window { x0: 1, y0: 0, x1: 0, y1: 9 }, Refusal::CornersCrossed),
         (Window { x0: 0, y0: 2, x1: 9, y1: 1 }, Refusal::CornersCrossed),
         (Window { x0: 0, y0: 0, x1: 3, y1: 0 }, Refusal::SquareOutside),
         (Window { x0: 0, y0: 4, x1: 0, y1: 4 }, Refusal::SquareOutside),
+        (Window { x0: -1, y0: 0, x1: 0, y1: 0 }, Refusal::SquareOutside),
+        (Window { x0: i32::MIN, y0: i32::MIN, x1: i32::MAX, y1: i32::MAX }, Refusal::SquareOutside),
     ] {
         assert_eq!(area.runs_for_window(window, &mut room), Err(refusal), "{window:?}");
         assert_eq!(area.count_runs(window), Err(refusal), "{window:?}");
-        assert_eq!((Area { w: 0, h: 4 }).runs_for_window(window, &mut room), Err(Refusal::AreaLimit), "{window:?}");
+        assert_eq!(area.at(0, -1_000_001).runs_for_window(window, &mut room), Err(Refusal::OriginLimit), "{window:?}");
+        assert_eq!(Area::new(0, 4).at(0, -1_000_001).runs_for_window(window, &mut room), Err(Refusal::AreaLimit), "{window:?}");
         assert_eq!(room, [[7; 2]; 4], "{window:?}");
     }
 }
 
 #[test]
 fn refusals_have_their_numbers() {
-    let area = Area { w: 3, h: 4 };
+    let area = Area::new(3, 4);
     let mut clerk = Clerk::new();
     let refusals = [
-        Area { w: 65536, h: 1 }.squares().map(|_| ()).unwrap_err(),
+        Area::new(65536, 1).squares().map(|_| ()).unwrap_err(),
         area.square_to_number(3, 0).unwrap_err(),
         area.number_to_square(12).unwrap_err(),
         area.fill_by_square(&mut [0; 11]).unwrap_err(),
@@ -113,8 +120,9 @@ fn refusals_have_their_numbers() {
         clerk.handle(&[b'N'; 65]).unwrap_err(),
         area.count_runs(Window { x0: 1, y0: 0, x1: 0, y1: 9 }).unwrap_err(),
         area.runs_for_window(Window { x0: 0, y0: 0, x1: 1, y1: 1 }, &mut [[7; 2]]).unwrap_err(),
+        area.at(1_000_001, 0).squares().map(|_| ()).unwrap_err(),
     ];
-    assert_eq!(refusals.map(u32::from), [1, 2, 3, 4, 5, 6, 7, 8, 10, 11]);
+    assert_eq!(refusals.map(u32::from), [1, 2, 3, 4, 5, 6, 7, 8, 10, 11, 12]);
     assert_eq!(u32::from(Refusal::TooDeep), 9);
 }
 
@@ -122,10 +130,44 @@ fn refusals_have_their_numbers() {
 fn an_area_line_is_told_whole() {
     let mut clerk = Clerk::new();
     let reply = clerk.handle(b"AREA 65535 65535");
-    let area = Area { w: 65535, h: 65535 };
+    let area = Area::new(65535, 65535);
     assert_eq!(reply, Ok(Reply::Area { area, squares: 4294836225, finish: Square { x: 65534, y: 0 } }));
     assert_eq!(clerk.area(), Some(area));
     assert_eq!(clerk.handle(b"S 65534 0"), area.square_to_number(65534, 0).map(Reply::Number));
-    let area = Area { w: 5, h: 2 };
+    let area = Area::new(5, 2);
     assert_eq!(clerk.handle(b"AREA 5 2"), Ok(Reply::Area { area, squares: 10, finish: Square { x: 3, y: 0 } }));
+}
+
+#[test]
+fn an_origin_line_moves_the_area_in_force() {
+    let mut clerk = Clerk::new();
+    assert_eq!(clerk.handle(b"ORIGIN 1 2"), Err(Refusal::NoArea));
+    assert!(clerk.handle(b"AREA 3 4").is_ok());
+    let area = Area::new(3, 4).at(-1_000_000, 1_000_000);
+    assert_eq!(clerk.handle(b"ORIGIN -1000000 0001000000"), Ok(Reply::Origin { ox: -1_000_000, oy: 1_000_000 }));
+    assert_eq!(clerk.area(), Some(area));
+    assert_eq!(clerk, Clerk::under(area));
+    assert_eq!(clerk.handle(b"N 8"), area.number_to_square(8).map(Reply::Cell));
+    assert_eq!(clerk.handle(b"S -999998 1000001"), area.square_to_number(-999_998, 1_000_001).map(Reply::Number));
+    assert_eq!(clerk.handle(b"S -0 1000001"), Err(Refusal::NotANumber));
+    assert_eq!(clerk.area(), Some(area));
+    assert!(clerk.handle(b"AREA 3 4").is_ok());
+    assert_eq!(clerk.area(), Some(Area::new(3, 4)));
+    for refused in [&b"ORIGIN 0 1000001"[..], b"ORIGIN -0 0", b"ORIGINX", &[&b"ORIGIN 1 2"[..], &[b' '; 70]].concat()] {
+        clerk = Clerk::under(area);
+        assert!(clerk.handle(refused).is_err());
+        assert_eq!(clerk.area(), None);
+    }
+}
+
+#[test]
+fn tables_do_not_depend_on_the_origin() {
+    let (area, moved) = (Area::new(5, 4), Area::new(5, 4).at(i32::MIN, i32::MAX));
+    let (mut table, mut other) = ([0; 20], [0; 20]);
+    assert_eq!(area.fill_by_number(&mut table), moved.fill_by_number(&mut other));
+    assert_eq!(table, other);
+    assert_eq!(moved.check_by_number(&table), Ok(Check::Right));
+    assert_eq!(area.fill_by_square(&mut table), moved.fill_by_square(&mut other));
+    assert_eq!(table, other);
+    assert_eq!(moved.check_by_square(&table), Ok(Check::Right));
 }

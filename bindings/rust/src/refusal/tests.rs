@@ -5,6 +5,7 @@ use std::string::ToString;
 #[test]
 fn an_answer_is_made_of_the_values() {
     assert_eq!(unless_refused(0, [7u32, 8], |[x, y]| (x, y)), Ok((7, 8)));
+    assert_eq!(unless_refused(0, [-7i32, 8], |[x, y]| (x, y)), Ok((-7, 8)));
 }
 
 #[test]
@@ -12,11 +13,14 @@ fn a_refusal_tells_the_first_value_or_nothing() {
     assert_eq!(unless_refused(4, [0u32, 0], |_| ()), Err(Refusal::TableLength));
     assert_eq!(unless_refused(11, [7u32, 8], |_| ()), Err(Refusal::NoRoom { count: 7 }));
     assert_eq!(unless_refused(11, [u64::MAX], |_| ()), Err(Refusal::NoRoom { count: u64::MAX }));
+    assert_eq!(unless_refused(11, [7i64, -8], |_| ()), Err(Refusal::NoRoom { count: 7 }));
+    assert_eq!(unless_refused(12, [0i32, 0], |_| ()), Err(Refusal::OriginLimit));
 }
 
 #[test]
 fn a_refusal_has_its_number_and_says_its_value() {
-    let refusals = [Refusal::NoArea, Refusal::NoRoom { count: 7 }];
-    assert_eq!(refusals.map(u32::from), [7, 11]);
-    assert_eq!(refusals.map(|refusal| refusal.to_string()), ["no area is in force", "there are 7 runs, more than there is room for"]);
+    let refusals = [Refusal::NoArea, Refusal::NoRoom { count: 7 }, Refusal::OriginLimit];
+    assert_eq!(refusals.map(u32::from), [7, 11, 12]);
+    let said = ["no area is in force", "there are 7 runs, more than there is room for", "the origin is beyond 1,000,000 either way"];
+    assert_eq!(refusals.map(|refusal| refusal.to_string()), said);
 }
