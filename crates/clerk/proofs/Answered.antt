@@ -3,12 +3,12 @@
 use mathlib.Core.Bool.{true, false}
 use mathlib.Core.List.{List, [], _∷_}
 use mathlib.Core.Path.{_≡_, refl, ap, _∙_}
-use Prim.Native.Nat.{ℕ, _-_, _*_}
+use Prim.Native.Nat.{ℕ, _-_, _*_, _<_}
 use lib.IntN.{ℤ, pos}
 use Rattle.terms.specs.declared.Area.{Area}
 use Rattle.terms.specs.declared.Refusal.{Refusal}
-use Rattle.terms.specs.Terms.{accepted, area-refusal, answered, refused, signed, in-signs, origin-accepted}
-use Rattle.terms.proofs.Laws.{refusal-not-0}
+use Rattle.terms.specs.Terms.{most-squares, lengths-accepted, accepted, area-refusal, answered, refused, signed, in-signs, origin-accepted}
+use Rattle.terms.proofs.Laws.{refusal-not-0, area-refused-1, area-refused-13, lengths-refused, squares-refused}
 use Rattle.division.specs.Division.{whole, square-of}
 use Rattle.curve.specs.Lookups.{finish-square}
 use Rattle.curve.specs.Grid.{number-to-square-at, square-to-number-at}
@@ -71,8 +71,8 @@ module _ (ox oy : ℤ) (line : List ℕ) (says : Says-two Spelt-signed ORIGIN ox
   unfolding spec.reply
   origin-without-area = ap (spec.reply-to NoArea) (origin-spelt ox oy line says)
 
--- "AREA w h n fx fy (n squares, finish square)", whatever was in force; and 1 for two numbers that are no area. "AREA lines print the new value": the square
--- of number w·h - 1, at origin 0 0.
+-- "AREA w h n fx fy (n squares, finish square)", whatever was in force; 1 for two numbers that are no area, and 13 for too many squares. "AREA lines print the
+-- new value": the square of number w·h - 1, at origin 0 0.
 module _ (clerk : Clerk) (w h : ℕ) (line : List ℕ) (says : Says-two Spelt AREA w h line) where
   pub area-replied : accepted w h ≡ true
       → spec.reply clerk line
@@ -84,9 +84,16 @@ module _ (clerk : Clerk) (w h : ℕ) (line : List ℕ) (says : Says-two Spelt AR
       ∙ ap (spec.from-call spec.Area-set (pos w ∷ pos h ∷ pos (w * h) ∷ [])) (finish-as-before w h)
       ∙ rw ok refl
 
-  pub area-refused : accepted w h ≡ false → spec.reply clerk line ≡ spec.says spec.Refused (pos 1 ∷ [])
-  unfolding spec.reply finish-square area-refusal
-  area-refused bad =
+  refused-by : accepted w h ≡ false → spec.reply clerk line ≡ spec.refuses (area-refusal w h)
+  unfolding spec.reply finish-square
+  refused-by bad =
       ap (spec.reply-to clerk) (area-spelt w h line says)
       ∙ ap (spec.from-call spec.Area-set (pos w ∷ pos h ∷ pos (w * h) ∷ [])) (finish-as-before w h)
-      ∙ rw bad refl
+      ∙ rw (bad, refusal-not-0 (area-refusal w h)) refl
+
+  pub area-refused : lengths-accepted w h ≡ false → spec.reply clerk line ≡ spec.says spec.Refused (pos 1 ∷ [])
+  area-refused bad = refused-by (lengths-refused w h bad) ∙ ap (λ n. spec.says spec.Refused (pos n ∷ [])) (area-refused-1 w h bad)
+
+  -- Order 7: "Refusals: 13, directly after 1", for two lengths within the limit.
+  pub squares-refused-13 : lengths-accepted w h ≡ true → most-squares < w * h → spec.reply clerk line ≡ spec.says spec.Refused (pos 13 ∷ [])
+  squares-refused-13 ok more = refused-by (squares-refused w h more) ∙ ap (λ n. spec.says spec.Refused (pos n ∷ [])) (area-refused-13 w h ok)

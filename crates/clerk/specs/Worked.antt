@@ -1,7 +1,7 @@
 -- Order lines worked by hand, as one table under one claim, which computes: those that document 01 gives under "Order lines", "Squares worked by hand" and
 -- "Errors a good programmer makes here", and for each of its sentences on lines some of our own; AREA lines with document 02's finish squares, and its orders 4
--- and 6. Here stand refusals, by their numbers and in their order, and the area in force after each line with its origin; what a line N or S says is the call's
--- own (`cell-replied`, `number-replied`), and so is the finish square of an area that is too large to list (`area-replied`).
+-- and 6. Here stand refusals, by their numbers and in their order, and the area in force after each line with its origin; what an N or S line says
+-- otherwise is the call's own (`cell-replied`, `number-replied`), and so is the finish square of an area that is too large to list (`area-replied`).
 use mathlib.Core.Bool.{Bool, true, false, _&&_}
 use mathlib.Core.List.{List, [], _∷_, _++_}
 use Prim.Native.Nat.{ℕ}
@@ -108,7 +108,8 @@ worked =
     -- "AREA w h n fx fy"; each length from 1 to 65,535
     sets "AREA 3 4" 3 4 12 2 0
     ∷ sets "AREA 1 1" 1 1 1 0 0
-    ∷ sets-large "AREA 65535 65535" 65535 65535 4294836225
+    ∷ sets-large "AREA 4096 4096" 4096 4096 16777216
+    ∷ sets-large "AREA 65535 256" 65535 256 16776960
     -- "AREA lines print the new value"
     ∷ sets "AREA 5 2" 5 2 10 3 0
     ∷ sets "AREA 3 2" 3 2 6 1 0
@@ -119,6 +120,12 @@ worked =
     ∷ clears "AREA 4 0" 1
     ∷ clears "AREA 65536 1" 1
     ∷ clears "AREA 1 65536" 1
+    -- "more than 16,777,216 squares": 13, after 1
+    ∷ clears "AREA 4096 4097" 13
+    ∷ clears "AREA 65535 257" 13
+    ∷ clears "AREA 65535 65535" 13
+    ∷ clears "AREA 65536 65536" 1
+    ∷ with-none "AREA 4096 4097" 13
     -- "whose first four bytes are AREA", "for any reason of refusal": 1 above, 5, 6 and 8
     ∷ clears "AREA 3E4 4" 5
     ∷ clears "AREA 3 +4" 5
@@ -223,6 +230,7 @@ worked =
     ∷ clears "ORIGIN 1000001 0" 12
     ∷ clears "ORIGIN 0 -1000001" 12
     ∷ clears "ORIGIN -2147483647 0" 12
+    ∷ clears "ORIGIN 2147483647 0" 12
     ∷ clears "ORIGIN 0 -0" 5
     ∷ clears "ORIGIN -0000000000 0" 5
     ∷ clears "ORIGIN 2147483648 0" 5
@@ -248,18 +256,20 @@ worked =
     ∷ with-none "ORIGIN 1" 6
     -- "The fields of ORIGIN and S may carry a minus": those of AREA and N may not
     ∷ clears "AREA -3 4" 5
+    ∷ clears "AREA 3 -4" 5
     ∷ stays "N -0" 5
     ∷ stays "S -3 7" 2
     ∷ stays "S -2147483647 2147483647" 2
     ∷ stays "S -0 7" 5
     ∷ stays "S -2 -2147483648" 5
     ∷ stays "S 4294967295 0" 5
+    ∷ stays "S 2147483648 0" 5
+    ∷ stays "S 0 -0000000000" 5
     ∷ stays "S -2 7-" 5
     ∷ with-none "S -2 7" 7
     -- "Squares asked and answered .. are then signed and origin plus the old square": number 8 is the old square (2, 1), held by 3 blocks
     ∷ answers "N 8" Cell (pos 0 ∷ pos 8 ∷ pos 3 ∷ [])
     ∷ answers "S 0 8" Number (pos 8 ∷ pos 3 ∷ [])
-    ∷ answers "S -0 8" Refused (pos 5 ∷ [])
     ∷ []
 
 pub worked-right : T (all-right worked)

@@ -1,30 +1,32 @@
 -- What the promises of the calls come to on the site grid: demand 2 "with the origin subtracted", both ways, with the count and demand 3; the finish square and
--- the steps; refusals 1 and 12; origin 0 0; an answer that meets a promise is the only one, and the wrong programs that a promise turns away.
+-- the steps; refusals 1, 13 and 12; at most 41 blocks; origin 0 0; one answer, and the wrong programs that a promise turns away.
 use mathlib.Core.Bool.{Bool, true, false, cond}
 use mathlib.Core.List.{List, [], _∷_}
-use mathlib.Core.Path.{_≡_, refl, sym, ap, ap₂, _∙_}
+use mathlib.Core.Path.{_≡_, refl, sym, ap, ap₂, subst⁻¹, _∙_}
 use Prim.Native.Nat.{ℕ, zero, suc, _+_, _-_, _*_, _^_, _≤_, _<_, zero-le}
 use native.Mathlib.Nat.{zero-add, add-zero, sub-zero}
 use native.Mathlib.Omega.{arith}
 use borrow.Author.Tests.{le-ltb, ltb-true, ltb-false, eqb-true}
 use lib.Dec.{ltb, eqb, lit<, lit≤}
 use lib.IntN.{ℤ, pos, negsuc, negℤ, subℕ, _+ℤ_, _-ℤ_, +ℤ-assoc, negℤ-+ℤ}
+use lib.ListN.{replicate}
 use lib.Signed.{mag}
 use Rattle.terms.specs.declared.Area.{Area}
 use Rattle.terms.specs.declared.Refusal.{Refusal}
 use Rattle.terms.specs.declared.Refusal.the-variants.{SquareOutside}
-use Rattle.terms.specs.Terms.{most-blocks, accepted, Figures, answered, refused, SignedFigures, in-signs, signed}
+use Rattle.terms.specs.Terms.{most-squares, lengths-accepted, accepted, FiguresOf, Figures, answered, refused, SignedFigures, in-signs, signed}
 use Rattle.terms.specs.Terms.{origin-accepted, at-post, grid-accepted, grid-refusal, on-area, on-grid}
-use Rattle.terms.proofs.Laws.{limits, named, named-back, refusal-some, refusal-not-0, grid-refused-1, grid-refused-12, grid-passed, figure, signed-figure}
+use Rattle.terms.proofs.Laws.{limits, named, named-back, refusal-some, refusal-not-0, figure, signed-figure}
+use Rattle.terms.proofs.Laws.{grid-refused-1, grid-refused-13, grid-refused-12, grid-passed, lengths-refused, squares-refused}
 use Rattle.terms.proofs.Ones.{by-figures}
 use Rattle.terms.proofs.Signs.{added-off, off-added}
 use Rattle.division.specs.Division.{square, whole, square-of, number-of, blocks-holding}
-use Rattle.division.proofs.Blocks.{at-most-54}
+use Rattle.division.proofs.Blocks.{at-most-41}
 use Rattle.curve.specs.declared.SquareAnswer as SquareAnswers
 use Rattle.curve.specs.declared.NumberAnswer as NumberAnswers
 use Rattle.curve.specs.declared.FinishAnswer as FinishAnswers
 use Rattle.curve.specs.Lookups.{number-to-square, square-to-number, finish-square, number-figures}
-use Rattle.curve.specs.Grid.{moved, from-origin, by-difference, number-to-square-at, square-to-number-at, finish-square-at}
+use Rattle.curve.specs.Grid.{moved-by-origin, from-origin, by-difference, number-to-square-at, square-to-number-at, finish-square-at}
 use Rattle.curve.specs.Grid.{square-figures, finish-figures}
 use Rattle.curve.specs.Steps.{step-between, step-of}
 use Rattle.curve.proofs.OnGrid.{square-off, number-off, finish-off, square-on, finish-on, number-outside-on}
@@ -53,32 +55,53 @@ both-added o a b =
     ∙ ap (λ (z : ℤ). z +ℤ negℤ (pos a)) (added-off o (pos b))
     ∙ pos-minus b a
 
--- "12 for an origin beyond the range, .. in calls that ask or answer squares directly after 1": every other argument may be anything.
-module _ (area : Area) (bad : accepted (area .w) (area .h) ≡ false) where
+-- A refusal's figures: "the number, all else 0".
+abbrev pub refused-by : (refusal n : ℕ) → FiguresOf ℕ
+refused-by refusal n = record { refusal = refusal; values = replicate n 0 }
+
+-- "13, directly after 1 and before everything else", and "12 for an origin beyond the range, .. in calls that ask or answer squares directly after 1": each
+-- whatever the other arguments are.
+module _ (area : Area) (bad : lengths-accepted (area .w) (area .h) ≡ false) where
   off-1 : grid-accepted area ≡ false
-  off-1 = rw bad
+  off-1 = rw (lengths-refused (area .w) (area .h) bad)
 
-  pub number-refused-1 : (n : ℕ) → number-to-square-at area n .refusal ≡ 1
-  number-refused-1 n = ap (λ f. f .refusal) (sym (square-off area off-1 (grid-refusal area) refl n)) ∙ grid-refused-1 area bad
+  pub number-refused-1 : (n : ℕ) → number-to-square-at area n ≡ signed (refused-by 1 3)
+  number-refused-1 n = sym (square-off area off-1 (grid-refusal area) refl n) ∙ ap (λ r. signed (refused-by r 3)) (grid-refused-1 area bad)
 
-  pub square-refused-1 : (x y : ℤ) → square-to-number-at area x y .refusal ≡ 1
-  square-refused-1 x y = ap (λ f. f .refusal) (sym (number-off area off-1 (grid-refusal area) refl x y)) ∙ grid-refused-1 area bad
+  pub square-refused-1 : (x y : ℤ) → square-to-number-at area x y ≡ refused-by 1 2
+  square-refused-1 x y = sym (number-off area off-1 (grid-refusal area) refl x y) ∙ ap (λ r. refused-by r 2) (grid-refused-1 area bad)
 
-  pub finish-refused-1 : finish-square-at area .refusal ≡ 1
-  finish-refused-1 = ap (λ f. f .refusal) (sym (finish-off area off-1 (grid-refusal area) refl)) ∙ grid-refused-1 area bad
+  pub finish-refused-1 : finish-square-at area ≡ signed (refused-by 1 2)
+  finish-refused-1 = sym (finish-off area off-1 (grid-refusal area) refl) ∙ ap (λ r. signed (refused-by r 2)) (grid-refused-1 area bad)
+
+module _ (area : Area) (ok : lengths-accepted (area .w) (area .h) ≡ true) (more : most-squares < area .w * area .h) where
+  large : accepted (area .w) (area .h) ≡ false
+  large = squares-refused (area .w) (area .h) more
+
+  off-13 : grid-accepted area ≡ false
+  off-13 = rw large
+
+  pub number-refused-13 : (n : ℕ) → number-to-square-at area n ≡ signed (refused-by 13 3)
+  number-refused-13 n = sym (square-off area off-13 (grid-refusal area) refl n) ∙ ap (λ r. signed (refused-by r 3)) (grid-refused-13 area ok large)
+
+  pub square-refused-13 : (x y : ℤ) → square-to-number-at area x y ≡ refused-by 13 2
+  square-refused-13 x y = sym (number-off area off-13 (grid-refusal area) refl x y) ∙ ap (λ r. refused-by r 2) (grid-refused-13 area ok large)
+
+  pub finish-refused-13 : finish-square-at area ≡ signed (refused-by 13 2)
+  finish-refused-13 = sym (finish-off area off-13 (grid-refusal area) refl) ∙ ap (λ r. signed (refused-by r 2)) (grid-refused-13 area ok large)
 
 module _ (area : Area) (ok : accepted (area .w) (area .h) ≡ true) (beyond : origin-accepted (area .ox) (area .oy) ≡ false) where
   off-12 : grid-accepted area ≡ false
   off-12 = rw (ok, beyond)
 
-  pub number-refused-12 : (n : ℕ) → number-to-square-at area n .refusal ≡ 12
-  number-refused-12 n = ap (λ f. f .refusal) (sym (square-off area off-12 (grid-refusal area) refl n)) ∙ grid-refused-12 area ok
+  pub number-refused-12 : (n : ℕ) → number-to-square-at area n ≡ signed (refused-by 12 3)
+  number-refused-12 n = sym (square-off area off-12 (grid-refusal area) refl n) ∙ ap (λ r. signed (refused-by r 3)) (grid-refused-12 area ok)
 
-  pub square-refused-12 : (x y : ℤ) → square-to-number-at area x y .refusal ≡ 12
-  square-refused-12 x y = ap (λ f. f .refusal) (sym (number-off area off-12 (grid-refusal area) refl x y)) ∙ grid-refused-12 area ok
+  pub square-refused-12 : (x y : ℤ) → square-to-number-at area x y ≡ refused-by 12 2
+  square-refused-12 x y = sym (number-off area off-12 (grid-refusal area) refl x y) ∙ ap (λ r. refused-by r 2) (grid-refused-12 area ok)
 
-  pub finish-refused-12 : finish-square-at area .refusal ≡ 12
-  finish-refused-12 = ap (λ f. f .refusal) (sym (finish-off area off-12 (grid-refusal area) refl)) ∙ grid-refused-12 area ok
+  pub finish-refused-12 : finish-square-at area ≡ signed (refused-by 12 2)
+  finish-refused-12 = sym (finish-off area off-12 (grid-refusal area) refl) ∙ ap (λ r. signed (refused-by r 2)) (grid-refused-12 area ok)
 
 -- "Squares asked and answered .. are then signed and origin plus the old square": of an area on the grid, what the calls answer is what they answered, moved.
 module _ (area : Area) (ok : grid-accepted area ≡ true) where
@@ -173,13 +196,12 @@ module _ (area : Area) (n : ℕ) (x y : ℤ) (k : ℕ) (e : number-to-square-at 
   pub count-bound-at : 1 < k → 3 ^ k ≤ 2 ^ k * (area .w * area .h)
   count-bound-at l = let was = old-square in count-bound (area .w) (area .h) n (was .east) (was .north) k (was .old) l
 
-  -- so it is small
-  pub few-blocks : k ≤ most-blocks
-  few-blocks =
+  -- Order 7: "a lookup reports at most 41 blocks".
+  pub at-most-41-blocks : k ≤ 41
+  at-most-41-blocks =
       let all = limits (area .w) (area .h) (grid-passed area (old-square .on) .0) in
-      let few = at-most-54 (area .w) (area .h) (all .w-least) (all .w-most) (all .h-least) (all .h-most) (square-of (whole (area .w) (area .h)) n) in
-      let is = count-is-at in
-      omega arith
+      subst⁻¹ (λ (m : ℕ). m ≤ 41) count-is-at
+      (at-most-41 (area .w) (area .h) (all .w-least) (all .h-least) (all .squares-most) (square-of (whole (area .w) (area .h)) n))
 
 -- And the number found has the square asked.
 module _ (area : Area) (x y : ℤ) (n k : ℕ) (e : square-to-number-at area x y ≡ answered (n ∷ k ∷ [])) where
@@ -196,6 +218,9 @@ module _ (area : Area) (x y : ℤ) (n k : ℕ) (e : square-to-number-at area x y
 
   pub square-count-bound-at : 1 < k → 3 ^ k ≤ 2 ^ k * (area .w * area .h)
   square-count-bound-at l = count-bound-at area n x y k square-back-at l
+
+  pub square-at-most-41-blocks : k ≤ 41
+  square-at-most-41-blocks = at-most-41-blocks area n x y k square-back-at
 
 -- "The finish square becomes the square of number w·h - 1": so on the grid.
 pub record Last-at (area : Area) : Type 0 where
@@ -217,10 +242,10 @@ finish-last-at area ok =
     }
 
 -- Order 5 "as signed differences in x and y": two successive answers differ by the step of the walk, whatever the origin.
-pub answers-step : (area : Area) (i : ℕ) (x y x′ y′ : ℤ) (k k′ : ℕ) → number-to-square-at area i ≡ found x y k
+pub answers-step-at : (area : Area) (i : ℕ) (x y x′ y′ : ℤ) (k k′ : ℕ) → number-to-square-at area i ≡ found x y k
     → number-to-square-at area (i + 1) ≡ found x′ y′ k′ → record { dx = x′ -ℤ x; dy = y′ -ℤ y } ≡ step-of (area .w) (area .h) i
 unfolding step-of step-between
-answers-step area i x y x′ y′ k k′ e f =
+answers-step-at area i x y x′ y′ k k′ e f =
     let p = old-square area i x y k e in
     let q = old-square area (i + 1) x′ y′ k′ f in
     let here = answered-square (area .w) (area .h) i (p .east) (p .north) k (p .old) in
@@ -231,10 +256,10 @@ answers-step area i x y x′ y′ k k′ e f =
     ∙ ap₂ step-between here next
 
 -- With origin 0 0 every call answers as before.
-unmoved : (values : List ℕ) → moved (pos 0) (pos 0) values ≡ in-signs values
+unmoved : (values : List ℕ) → moved-by-origin (pos 0) (pos 0) values ≡ in-signs values
 unfolding in-signs
 unmoved [] = refl
-unmoved (x ∷ []) = ap (λ x. pos x ∷ []) (zero-add x)
+unmoved (x ∷ []) = refl
 unmoved (x ∷ y ∷ more) = ap₂ (λ x y. pos x ∷ pos y ∷ in-signs more) (zero-add x) (zero-add y)
 
 from-post : (f : Figures) → from-origin (pos 0) (pos 0) f ≡ signed f
@@ -242,7 +267,7 @@ unfolding from-origin
 from-post f = by (eqb (f .refusal) 0) refl
   where
     by : (t : Bool) → eqb (f .refusal) 0 ≡ t
-        → cond t (record { refusal = 0; values = moved (pos 0) (pos 0) (f .values) }) (signed f) ≡ signed f
+        → cond t (record { refusal = 0; values = moved-by-origin (pos 0) (pos 0) (f .values) }) (signed f) ≡ signed f
     by true e = ap₂ (λ r values. record { refusal = r; values = values }) (sym (eqb-true (f .refusal) 0 e)) (unmoved (f .values))
     by false e = refl
 

@@ -1,4 +1,4 @@
--- From the answers of `Lookups`, which count squares from the area's corner, to those of the calls: the refusals 1 and 12 first, then the origin added or
+-- From the answers of `Lookups`, which count squares from the area's corner, to those of the calls: the refusals 1, 13 and 12 first, then the origin added or
 -- subtracted.
 use mathlib.Core.Bool.{Bool, true, false}
 use mathlib.Core.List.{[], _∷_}
@@ -26,7 +26,7 @@ use Rattle.curve.specs.Grid.{from-origin, by-difference, number-to-squar
 use Rattle.curve.specs.Placing.{Places}
 use Rattle.curve.proofs.Answers.{number-outside, x-outside, y-outside}
 
--- a refusal is not moved
+-- a refusal is not moved-by-origin
 pub refusal-stays : (ox oy : ℤ) (r : Refusal) (n : ℕ) → from-origin ox oy (refused r n) ≡ signed (refused r n)
 unfolding from-origin
 refusal-stays ox oy r n = rw (refusal-not-0 r)
@@ -71,7 +71,7 @@ module _ (area : Area) where
     finish-off =
         sym (refusal-stays (area .ox) (area .oy) r 2) ∙ ap (from-origin (area .ox) (area .oy)) (off 2 (finish-square (area .w) (area .h)))
 
-  -- neither: the old answer, moved
+  -- neither: the old answer, moved-by-origin
   module _ (ok : grid-accepted area ≡ true) where
     on : (n : ℕ) {f g : Figures} → f ≡ g → f ≡ on-grid area n g
     on n e = e ∙ rw ok
@@ -108,7 +108,7 @@ module _ (area : Area) where
 pub distance-kept : {v o : ℤ} {d : ℕ} → SFits w32 v → held o ≡ o → d ≡ distance-of (held v -ℤ held o) → d ≡ distance-of (v -ℤ o)
 distance-kept fits is e = e ∙ ap₂ (λ v o. distance-of (v -ℤ o)) (kept fits) is
 
--- a coordinate moved by the origin, from what the locals hold
+-- a coordinate moved-by-origin by the origin, from what the locals hold
 pub shifted-kept : {o r : ℤ} {d : ℕ} → held o ≡ o → offset-accepted o ≡ true → d ≤ longest-side → r ≡ held o +ℤ pos d → held r ≡ o +ℤ pos d
 shifted-kept {o} {r} {d} is ok l e =
     let sum : r ≡ o +ℤ pos d = e ∙ ap (λ (o : ℤ). o +ℤ pos d) is in

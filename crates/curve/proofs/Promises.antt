@@ -119,9 +119,6 @@ count-bound w h n x y k e l =
     let is = count-is w h n x y k e in
     subst⁻¹ (λ (m : ℕ). 3 ^ m ≤ 2 ^ m * (w * h)) is (demand-3 w h (all .w-least) (all .h-least) (square x y) (subst (λ (m : ℕ). 1 < m) is l))
 
-pub square-count-bound : (w h x y n k : ℕ) → square-to-number w h x y ≡ answered (n ∷ k ∷ []) → 1 < k → 3 ^ k ≤ 2 ^ k * (w * h)
-square-count-bound w h x y n k e l = count-bound w h n x y k (square-back w h x y n k e) l
-
 -- "The finish square becomes the square of number w·h - 1", of the calls: the lookup of that number is answered in every accepted area, and with that square.
 pub record Last (w h : ℕ) : Type 0 where
   pub x : ℕ

@@ -13,14 +13,14 @@ use Rattle.curve.specs.declared.FinishAnswer as FinishAnswers
 use Rattle.curve.specs.Lookups.{number-to-square, square-to-number, finish-square}
 
 -- "Squares asked and answered, finish and windows included, are then signed and origin plus the old square": values that begin with a square's x and y.
-abbrev pub moved : (ox oy : ℤ) → List ℕ → List ℤ
-moved ox oy [] = []
-moved ox oy (x ∷ []) = (ox +ℤ pos x) ∷ []
-moved ox oy (x ∷ y ∷ more) = (ox +ℤ pos x) ∷ (oy +ℤ pos y) ∷ in-signs more
+abbrev pub moved-by-origin : (ox oy : ℤ) → List ℕ → List ℤ
+moved-by-origin ox oy [] = []
+moved-by-origin ox oy (x ∷ []) = pos x ∷ []
+moved-by-origin ox oy (x ∷ y ∷ more) = (ox +ℤ pos x) ∷ (oy +ℤ pos y) ∷ in-signs more
 
 -- So of an answer. "The number, all else 0": a refusal's values are not moved.
 unfoldable pub from-origin : (ox oy : ℤ) → Figures → SignedFigures
-from-origin ox oy f = cond (eqb (f .refusal) 0) (record { refusal = 0; values = moved ox oy (f .values) }) (signed f)
+from-origin ox oy f = cond (eqb (f .refusal) 0) (record { refusal = 0; values = moved-by-origin ox oy (f .values) }) (signed f)
 
 -- "12 for an origin beyond the range, .. in calls that ask or answer squares directly after 1", and then the call's own: `on-grid`.
 unfoldable pub number-to-square-at : (area : Area) (number : ℕ) → SignedFigures

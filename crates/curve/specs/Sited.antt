@@ -61,6 +61,12 @@ worked =
     ∷ of-number (at 1 1 (pos 0) (negsuc 1000000)) 0 12 (pos 0 ∷ zeros)
     ∷ of-square (at 1 1 (negsuc 1000000) (pos 0)) (negsuc 1000000) (pos 0) 12 (0 ∷ 0 ∷ [])
     ∷ of-finish (at 1 1 (pos 0) (pos 2147483647)) 12 zeros
+    -- 13 "directly after 1 and before everything else"
+    ∷ of-number (at 4096 4097 (pos 1000001) (pos 0)) 0 13 (pos 0 ∷ zeros)
+    ∷ of-square (at 65535 257 (pos 0) (negsuc 1000000)) (pos 0) (pos 0) 13 (0 ∷ 0 ∷ [])
+    ∷ of-finish (at 65535 65535 (pos 1000001) (pos 0)) 13 zeros
+    ∷ of-number (at 0 65536 (pos 1000001) (pos 0)) 0 1 (pos 0 ∷ zeros)
+    ∷ of-number (at 4096 4096 (pos 1000001) (pos 0)) 0 12 (pos 0 ∷ zeros)
     -- 12 "directly after 1", and before the call's own
     ∷ of-number (at 0 1 (pos 1000001) (pos 0)) 0 1 (pos 0 ∷ zeros)
     ∷ of-square (at 65536 1 (pos 1000001) (pos 0)) (pos 0) (pos 0) 1 (0 ∷ 0 ∷ [])

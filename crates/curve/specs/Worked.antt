@@ -1,15 +1,14 @@
 -- Calls worked by hand, as one table under one claim, which computes: document 01, "Refusal numbers", with the order of the refusals and "the number, all else
--- 0", its cases "65,536 by 1 and 0 by 5: refusal 1"; the finish squares of document 02, order 1, and the terms of its order 5, on small areas. The squares,
--- numbers and counts of answered lookups are worked in the division's tables.
+-- 0", its cases "65,536 by 1 and 0 by 5: refusal 1"; the finish squares of document 02, order 1, and the limit of its order 7; on small areas the terms of its
+-- order 5. The squares, numbers and counts of answered lookups are worked in the division's tables.
 use mathlib.Core.Bool.{Bool, true, _&&_, not}
 use mathlib.Core.List.{List, [], _∷_}
 use Prim.Native.Nat.{ℕ, _+_}
 use lib.Dec.{T, eqb}
 use lib.IntN.{ℤ, pos, negsuc}
 use lib.ListN.{length}
-use lib.Signed.{leZ}
 use Rattle.terms.specs.Terms.{accepted, area-refusal}
-use Rattle.terms.specs.Comparing.{same-numbers, same-figures}
+use Rattle.terms.specs.Comparing.{same-numbers, same-figures, same-integer}
 use Rattle.division.specs.Division.{whole, choice, even-half, part, parts, parts-of, moved, against, row, curve-by, down, curve, count, square-of}
 use Rattle.curve.specs.Lookups.{unless-deep, number-to-square, square-to-number, finish-square}
 use Rattle.curve.specs.Steps.{Step, step-between, step-of, shares-side, corner-only, steps-through, walk, stretch}
@@ -36,12 +35,9 @@ pub data Case : Type 0 where
   -- so has the stretch from number i to number j
   stretched : (w h i j sides corners : ℕ) → Case
 
-same-difference : ℤ → ℤ → Bool
-same-difference m n = leZ m n && leZ n m
-
 is-step : (w h i : ℕ) (dx dy : ℤ) → Bool
 unfolding step-of step-between square-of curve down parts parts-of part choice even-half whole moved against row curve-by mathlib.Core.List.flatten
-is-step w h i dx dy = same-difference (step-of w h i .dx) dx && same-difference (step-of w h i .dy) dy
+is-step w h i dx dy = same-integer (step-of w h i .dx) dx && same-integer (step-of w h i .dy) dy
 
 abbrev by : ℤ → ℤ → Step
 by dx dy = record { dx = dx; dy = dy }
@@ -51,7 +47,7 @@ counted steps sides corners =
     eqb (count shares-side steps) sides && eqb (count corner-only steps) corners && eqb (length steps) (sides + corners)
 
 right : Case → Bool
-unfolding is-step same-difference counted shares-side corner-only walk stretch steps-through count
+unfolding is-step counted shares-side corner-only walk stretch steps-through count
 right (number-refused w h number r) = same-figures (number-to-square w h number) r (0 ∷ 0 ∷ 0 ∷ [])
 right (square-refused w h x y r) = same-figures (square-to-number w h x y) r (0 ∷ 0 ∷ [])
 right (finish-refused w h r) = same-figures (finish-square w h) r (0 ∷ 0 ∷ [])
@@ -92,14 +88,30 @@ worked =
     ∷ number-refused 3 4 12 3
     ∷ number-refused 3 4 4294967295 3
     ∷ number-refused 1 1 1 3
-    ∷ number-refused 65535 65535 4294836225 3
+    ∷ number-refused 4096 4096 16777216 3
+    ∷ number-refused 8192 2048 16777216 3
+    ∷ number-refused 65535 256 16776960 3
+    ∷ number-refused 1 65535 65535 3
     -- "x >= w or y >= h"
     ∷ square-refused 3 4 3 0 2
     ∷ square-refused 3 4 0 4 2
     ∷ square-refused 3 4 3 4 2
     ∷ square-refused 4 3 0 3 2
-    ∷ square-refused 65535 65535 65535 0 2
-    ∷ square-refused 65535 65535 0 4294967295 2
+    ∷ square-refused 65535 256 65535 0 2
+    ∷ square-refused 65535 256 0 4294967295 2
+    -- "An area of more than 16,777,216 squares is refused": one square more, and those that the request names; before 2 and 3, and after 1
+    ∷ number-refused 24929 673 0 13
+    ∷ number-refused 4096 4097 16781312 13
+    ∷ number-refused 4097 4096 0 13
+    ∷ number-refused 65535 257 4294967295 13
+    ∷ number-refused 65535 65535 4294836225 13
+    ∷ square-refused 4096 4097 4096 0 13
+    ∷ square-refused 65535 65535 0 0 13
+    ∷ finish-refused 4096 4097 13
+    ∷ finish-refused 65535 257 13
+    ∷ number-refused 0 65536 0 1
+    ∷ square-refused 65536 65535 0 0 1
+    ∷ finish-refused 0 65536 1
     -- "A van went to (4, 0) for a 5 by 2 area and the crew came out at (3, 0)", and document 02's other areas, each with its neighbours
     ∷ finishes-at 5 2 3 0
     ∷ finishes-at 3 2 1 0

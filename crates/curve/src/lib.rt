@@ -4,9 +4,12 @@ use descents::Held;
 use searches::Numbered;
 use terms::Area;
 use terms::Refusal;
+ghost use mathlib.Core.Bool.{true};
 ghost use mathlib.Core.List.{[], _∷_};
 ghost use mathlib.Core.Path.{_≡_};
-ghost use Rattle.terms.specs.Terms.{answered};
+ghost use Prim.Native.Nat.{_≤_};
+ghost use lib.IntN.{pos, _+ℤ_};
+ghost use Rattle.terms.specs.Terms.{longest-side, offset-accepted, answered};
 ghost use Rattle.curve.specs.Lookups.{unless-deep, number-figures};
 ghost use Rattle.curve.specs.Grid.{square-figures, finish-figures, from-origin, number-to-square-at, square-to-number-at, finish-square-at};
 ghost use Rattle.curve.specs.Placing.{Places};
@@ -32,6 +35,14 @@ pub enum FinishAnswer {
     Refused(Refusal),
 }
 
+// A place on the site grid, so far east or north of the origin.
+fn shifted(o: i32, d: u32) -> i32
+    requires { ⌜ (offset-accepted o ≡ true) × (d ≤ longest-side) ⌝ }
+    ensures { λ r. ⌜ r ≡ o +ℤ pos d ⌝ }
+{
+    o + d as i32
+}
+
 // What was found, moved by the origin, unless too many blocks hold the square.
 fn square_unless_deep(area: Area, held: Held) -> SquareAnswer
     requires { ⌜ Places area (held .x) (held .y) ⌝ }
@@ -42,8 +53,8 @@ fn square_unless_deep(area: Area, held: Held) -> SquareAnswer
         return SquareAnswer::Refused(Refusal::TooDeep);
     }
     SquareAnswer::Found {
-        x: terms::shifted(area.ox, held.x),
-        y: terms::shifted(area.oy, held.y),
+        x: shifted(area.ox, held.x),
+        y: shifted(area.oy, held.y),
         blocks: held.blocks,
     }
 }
@@ -66,8 +77,8 @@ fn finish_at(area: Area, x: u32, y: u32) -> FinishAnswer
     ensures { λ r. ⌜ finish-figures r ≡ from-origin (area .ox) (area .oy) (answered (x ∷ y ∷ [])) ⌝ }
 {
     FinishAnswer::Found {
-        x: terms::shifted(area.ox, x),
-        y: terms::shifted(area.oy, y),
+        x: shifted(area.ox, x),
+        y: shifted(area.oy, y),
     }
 }
 

@@ -11,7 +11,7 @@ use native.Mathlib.Numerals.{one-add}
 use native.Mathlib.Omega.{arith}
 use lib.Dec.{lit<, lit≤}
 use lib.ListN.{length}
-use Rattle.terms.specs.Terms.{longest-side}
+use Rattle.terms.specs.Terms.{longest-side, most-squares}
 use Rattle.division.specs.Division.{Square, Block, whole, parts, blocks, holds, one, count, blocks-holding}
 use Rattle.division.specs.Division.Inside.{Sized, x-y, Inside}
 use Rattle.division.proofs.Rules.{All, All-map, Smaller, smaller, blocks-rule}
@@ -215,3 +215,8 @@ unfolding whole
 at-most-54 w h a w-limit b h-limit p =
     held-by-at-most (longest-side * longest-side) 54 (lit< tt) (whole w h) p (bounded w h (whole w h) (whole-inside w h a b) p) (lit≤ tt)
     (mul-le-mul w-limit h-limit)
+
+-- Order 7: "a lookup reports at most 41 blocks", from demand 3: 42 blocks would take over 16,777,216 squares.
+pub at-most-41 : (w h : ℕ) → 1 ≤ w → 1 ≤ h → w * h ≤ most-squares → (p : Square) → blocks-holding (whole w h) p ≤ 41
+unfolding whole
+at-most-41 w h a b few p = held-by-at-most most-squares 41 (lit< tt) (whole w h) p (bounded w h (whole w h) (whole-inside w h a b) p) (lit≤ tt) few

@@ -50,7 +50,7 @@ module _ (w h : ℕ) (t : List ℕ) (size : length t ≡ w * h) where
       let ok = number-asked w h n (x ∷ y ∷ k ∷ []) (square-back w h x y n k e) .0 in
       ap (λ ds. getD ds (y * w + x) 0) (filled-so w h t (by-square w h) (that-length-filled w h t ok size)) ∙ by-square-due w h x y n k e
 
-  -- So of the calls, whose squares are counted from the origin: the table's count from the area's own corner, "with the origin subtracted".
+  -- So of the calls, whose squares are counted from the datum post: the table's count from the area's own corner, "with the origin subtracted".
   pub by-number-holds-at : (ox oy : ℤ) (i : ℕ) (x y : ℤ) (k : ℕ) (e : number-to-square-at (area-at w h ox oy) i ≡ found x y k)
       → getD (unless-refused (fill w h t) (by-number w h) t) i 0
       ≡ old-square (area-at w h ox oy) i x y k e .north * w + old-square (area-at w h ox oy) i x y k e .east

@@ -10,10 +10,9 @@ use mir.Syntax.{w32, w64}
 use mir.Val.{Fits, SFits, toZ}
 use mir.Facts.{toZ-pos}
 use Rattle.terms.specs.declared.Area.{Area}
-use Rattle.terms.specs.Terms.{FiguresOf, Figures, SignedFigures}
+use Rattle.terms.specs.Terms.{FiguresOf, Figures}
 use Rattle.clerk.specs.declared.Clerk.{Clerk}
-use Rattle.clerk.specs.declared.Reply.{Reply}
-use Rattle.clerk.specs.Clerk.{Said, said, after, reply}
+use Rattle.clerk.specs.Clerk.{Said, after, reply}
 use Rattle.tables.specs.Tables.{unless-refused, fill}
 use Rattle.terms.proofs.Signs.{held, kept}
 use Rattle.exports.specs.Boundary.{returned, written, left, filled, area-at, window-at}
@@ -108,9 +107,6 @@ module _ (w h : ℕ) (due : ℕ → ℕ → List ℕ) (table slice : List ℕ) w
   fill-told = lent-told (fill w h table) (unless-refused (fill w h table) (due w h) table) table slice
 
 -- What the clerk hands back, as figures, is what is due of a clerk under the caller's area.
-abbrev pub shown-under : Area → Reply → SignedFigures
-shown-under area r = handled-figures area (said r)
-
 pub handled-as : {under clerk : Clerk} {area : Area} {s : Said} {from : Clerk} (line : List ℕ) → under ≡ from
     → (clerk ≡ after under line) × (s ≡ reply under line) → area ≡ area-of clerk → handled-figures area s ≡ handled-by from line
 handled-as line begun both held =

@@ -6,7 +6,7 @@ use mathlib.Core.Path.{_≡_, refl, sym, ap, _∙_}
 use Prim.Native.Nat.{ℕ, _+_}
 use native.Mathlib.Omega.{arith}
 use lib.Dec.{leb}
-use lib.IntN.{ℤ, pos}
+use lib.IntN.{ℤ, pos, negsuc}
 use lib.ListN.{replicate}
 use Rattle.words.specs.Letters.{bytes}
 use Rattle.lines.proofs.Asking.{between}
@@ -41,6 +41,15 @@ text-is line s =
     ap (λ w. decimal line ++ ((w ++ all-spaced (s .numbers)) ++ (10 ∷ []))) (word-spaced (s .word))
     ∙ ap (λ t. decimal line ++ ((32 ∷ t) ++ (10 ∷ []))) (sym said)
     ∙ sym (append-assoc (decimal line) (32 ∷ between (printed-word (s .word) ∷ map signed-decimal (s .numbers))) (10 ∷ []))
+
+-- So a reply with numbers below 0: a minus, and no 0 before the digits.
+pub origin-printed : text 2 (says Origin-set (negsuc 4 ∷ pos 7 ∷ [])) ≡ bytes "2 ORIGIN -5 7\n"
+unfolding text decimal decimal-by
+origin-printed = refl
+
+pub cell-printed : text 3 (says Cell (negsuc 2 ∷ pos 8 ∷ pos 3 ∷ [])) ≡ bytes "3 CELL -3 8 3\n"
+unfolding text decimal decimal-by
+cell-printed = refl
 
 -- Two results that meet the promise of `write_reply`, of `write_stop` or of a call that writes as they do are one.
 pub writes-one : {before bytes one other : List ℕ} {at end end′ : ℕ} → Writes before at bytes one end → Writes before at bytes other end′

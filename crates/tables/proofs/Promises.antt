@@ -10,6 +10,7 @@ use borrow.Author.Tests.{eqb-true, eqb-false, eq-eqb, ne-eqb}
 use lib.Dec.{eqb, lit≤, lit<}
 use lib.ListN.{length, getD}
 use Rattle.division.proofs.Small.{blocks-two}
+use Rattle.terms.specs.declared.Area.{Area}
 use Rattle.terms.specs.declared.Refusal.the-variants.{TableLength}
 use Rattle.terms.specs.Terms.{accepted, area-refusal, Figures, answered, refused}
 use Rattle.terms.proofs.Laws.{limits, named, named-back, refusal-some, refusal-not-0, figure}
@@ -19,6 +20,7 @@ use Rattle.division.proofs.Blocks.{whole-inside, few-blocks}
 use Rattle.tables.specs.declared.FillAnswer as FillAnswers
 use Rattle.tables.specs.declared.CheckAnswer as CheckAnswers
 use Rattle.tables.specs.Tables.{by-number, by-square, due-by, judged, on-table, unless-refused, fill, check, fill-figures, check-figures}
+use Rattle.tables.specs.Tables.{fill-at, filled-at, check-at}
 use Rattle.tables.proofs.Whole.{area-refused, length-refused, taken, given}
 use Rattle.tables.proofs.Judged.{judged-right}
 use Rattle.tables.proofs.PlaceByPlace.{place-holds, values-below, due-there, looked-for, looked-below, looked-at, due-length}
@@ -260,3 +262,11 @@ made-up-count n promise =
 pub bound-reported :
     ((w h : ℕ) (t : List ℕ) → accepted w h ≡ true → length t ≡ w * h → fill-figures (FillAnswers.the-variants.Filled (2 * (w * h) - 1)) ≡ fill w h t) → ⊥
 bound-reported promise = omega (arith, ap (figure 0) (promise 2 2 (0 ∷ 0 ∷ 0 ∷ 0 ∷ []) four-squares refl ∙ four-reported))
+
+-- "table contents and numbers are unaffected": two areas of the same lengths, whatever their origins are, are filled and checked alike.
+module _ (a b : Area) (wide : a .w ≡ b .w) (high : a .h ≡ b .h) (due : ℕ → ℕ → List ℕ) (t : List ℕ) where
+  pub origin-unseen : (fill-at a t ≡ fill-at b t) × ((filled-at a due t ≡ filled-at b due t) × (check-at a due t ≡ check-at b due t))
+  origin-unseen = (
+    ap₂ (λ w h. fill w h t) wide high,
+    (ap₂ (λ w h. unless-refused (fill w h t) (due w h) t) wide high, ap₂ (λ w h. check w h (due w h) t) wide high),
+  )

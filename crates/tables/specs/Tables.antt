@@ -1,9 +1,11 @@
--- What a fill and a check of a table say, for every area and every table: document 01, "What a lookup and a table say" and "Refusal numbers".
+-- What a fill and a check of a table say, for every area and every table: document 01, "What a lookup and a table say" and "Refusal numbers"; and by document
+-- 02, order 6, an origin makes no difference to them.
 use mathlib.Core.Bool.{Bool, cond}
 use mathlib.Core.List.{List, [], _∷_, _++_}
 use Prim.Native.Nat.{ℕ, zero, suc, _+_, _*_, _/_, _%_}
 use lib.Dec.{ltb, eqb}
 use lib.ListN.{length}
+use Rattle.terms.specs.declared.Area.{Area}
 use Rattle.terms.specs.declared.Refusal.the-variants.{TableLength, TooDeep}
 use Rattle.terms.specs.Terms.{most-blocks, accepted, area-refusal, Figures, answered, refused}
 use Rattle.division.specs.Division.{square, whole, curve, blocks, square-of, number-of, blocks-holding, count}
@@ -29,7 +31,7 @@ by-square w h = places (λ p. number-of (whole w h) (square (p % w) (p / w))) (w
 unfoldable pub some-deep : (w h : ℕ) → Bool
 some-deep w h = ltb 0 (count (λ s. ltb most-blocks (blocks-holding (whole w h) s)) (curve (whole w h)))
 
--- "A table's length must be exactly w·h." The area comes first.
+-- "A table's length must be exactly w·h." The area comes first, with 1 and 13.
 abbrev pub admission : (w h places : ℕ) → Admission
 admission w h places = cond (accepted w h) (cond (eqb places (w * h)) Granted (Refused TableLength)) (Refused (area-refusal w h))
 
@@ -65,6 +67,17 @@ due-by kind-by-square w h = cond kind-by-square (by-square w h) (by-number w h)
 
 unfoldable pub check : (w h : ℕ) → (due table : List ℕ) → Figures
 check w h due table = on-table w h table 3 (answered (judged 0 due table))
+
+-- Order 6: "table contents and numbers are unaffected", and 12 is for "calls that ask or answer squares". So of an area with an origin these calls see the
+-- lengths alone: what a fill answers, the table afterwards, and what a check answers.
+abbrev pub fill-at : Area → List ℕ → Figures
+fill-at area table = fill (area .w) (area .h) table
+
+abbrev pub filled-at : Area → (due : (w h : ℕ) → List ℕ) → List ℕ → List ℕ
+filled-at area due table = unless-refused (fill-at area table) (due (area .w) (area .h)) table
+
+abbrev pub check-at : Area → (due : (w h : ℕ) → List ℕ) → List ℕ → Figures
+check-at area due table = check (area .w) (area .h) (due (area .w) (area .h)) table
 
 -- The figures of a check's answer.
 abbrev pub check-figures : CheckAnswers.CheckAnswer → Figures

@@ -1,5 +1,5 @@
--- Calls on tables worked by hand, as one table under one claim, which computes: document 01, "3 by 4, table of 11 or 13 places: refusal 4", and that refusal 1
--- comes first. What an answered fill leaves is said by `filled-so` and `number-holds`.
+-- Calls on tables worked by hand, as one table under one claim, which computes: document 01, "3 by 4, table of 11 or 13 places: refusal 4", and that refusals 1
+-- and 13 come first. What an answered fill leaves is said by `filled-so` and `number-holds`.
 use mathlib.Core.Bool.{Bool, true, _&&_}
 use mathlib.Core.List.{List, [], _∷_}
 use Prim.Native.Nat.{ℕ}
@@ -35,7 +35,13 @@ worked =
     ∷ refused-so 3 4 13 4
     ∷ refused-so 3 4 0 4
     ∷ refused-so 1 1 2 4
-    ∷ refused-so 65535 65535 1 4
+    ∷ refused-so 4096 4096 1 4
+    ∷ refused-so 65535 256 0 4
+    -- "more than 16,777,216 squares": 13, before 4
+    ∷ refused-so 4096 4097 1 13
+    ∷ refused-so 65535 257 0 13
+    ∷ refused-so 65535 65535 1 13
+    ∷ refused-so 0 65536 0 1
     ∷ refused-so 0 5 0 1
     ∷ refused-so 0 5 1 1
     ∷ refused-so 5 0 3 1

@@ -7,7 +7,8 @@ ghost use Rattle.division.specs.Division.{whole};
 ghost use Rattle.division.specs.Forms.{block};
 ghost use Rattle.terms.specs.Terms.{answered};
 ghost use Rattle.leaves.specs.Walk.{Fits};
-ghost use Rattle.tables.specs.Tables.{admission, judged, by-number, by-square, unless-refused, due-by, fill, fill-figures, check, check-figures};
+ghost use Rattle.tables.specs.Tables.{admission, judged, by-number, by-square, unless-refused, due-by, fill, fill-figures};
+ghost use Rattle.tables.specs.Tables.{check, check-figures, fill-at, filled-at, check-at};
 
 // What a fill answers.
 pub enum FillAnswer {
@@ -74,18 +75,16 @@ fn fill_whole(area: Area, table: &mut [u32], by_square: bool) -> FillAnswer
 
 // Place i gets y·w + x of square number i.
 pub fn fill_by_number(area: Area, table: &mut [u32]) -> FillAnswer
-    ensures answer { λ r. ⌜ fill-figures r ≡ fill (area .w) (area .h) (now (table .entry)) ⌝ }
-    ensures table { λ r. ⌜ now (table .exit)
-        ≡ unless-refused (fill (area .w) (area .h) (now (table .entry))) (by-number (area .w) (area .h)) (now (table .entry)) ⌝ }
+    ensures answer { λ r. ⌜ fill-figures r ≡ fill-at area (now (table .entry)) ⌝ }
+    ensures table { λ r. ⌜ now (table .exit) ≡ filled-at area by-number (now (table .entry)) ⌝ }
 {
     fill_whole(area, table, false)
 }
 
 // Place y·w + x gets the square's number.
 pub fn fill_by_square(area: Area, table: &mut [u32]) -> FillAnswer
-    ensures answer { λ r. ⌜ fill-figures r ≡ fill (area .w) (area .h) (now (table .entry)) ⌝ }
-    ensures table { λ r. ⌜ now (table .exit)
-        ≡ unless-refused (fill (area .w) (area .h) (now (table .entry))) (by-square (area .w) (area .h)) (now (table .entry)) ⌝ }
+    ensures answer { λ r. ⌜ fill-figures r ≡ fill-at area (now (table .entry)) ⌝ }
+    ensures table { λ r. ⌜ now (table .exit) ≡ filled-at area by-square (now (table .entry)) ⌝ }
 {
     fill_whole(area, table, true)
 }
@@ -119,14 +118,14 @@ fn check_whole(area: Area, table: &[u32], by_square: bool) -> CheckAnswer
 
 // Whether place i holds y·w + x of square number i, for every i; else the first place that does not.
 pub fn check_by_number(area: Area, table: &[u32]) -> CheckAnswer
-    ensures { λ r. ⌜ check-figures r ≡ check (area .w) (area .h) (by-number (area .w) (area .h)) (now (table .entry)) ⌝ }
+    ensures { λ r. ⌜ check-figures r ≡ check-at area by-number (now (table .entry)) ⌝ }
 {
     check_whole(area, table, false)
 }
 
 // Whether place y·w + x holds the square's number, for every square; else the first place that does not.
 pub fn check_by_square(area: Area, table: &[u32]) -> CheckAnswer
-    ensures { λ r. ⌜ check-figures r ≡ check (area .w) (area .h) (by-square (area .w) (area .h)) (now (table .entry)) ⌝ }
+    ensures { λ r. ⌜ check-figures r ≡ check-at area by-square (now (table .entry)) ⌝ }
 {
     check_whole(area, table, true)
 }

@@ -1,10 +1,10 @@
--- What the terms say: an accepted area's lengths and squares, and that a refusal's number names it alone and is never 0.
-use mathlib.Core.Bool.{Bool, true, false, not, cond, and-true, and-eq-true-iff}
+-- What the terms say: an accepted area's lengths, squares and origin, and that a refusal's number names it alone and is never 0.
+use mathlib.Core.Bool.{Bool, true, false, not, cond, and-true, and-false, and-eq-true-iff}
 use mathlib.Core.List.{List, [], _∷_}
 use mathlib.Core.Path.{_≡_, refl, sym, ap, _∙_}
 use Prim.Native.Nat.{ℕ, _*_, _≤_, _<_}
 use native.Mathlib.Nat.{mul-le-mul}
-use borrow.Author.Tests.{leb-true, ne-eqb, not-true, not-false}
+use borrow.Author.Tests.{le-leb, lt-leb, leb-true, ne-eqb, not-true, not-false}
 use lib.Dec.{leb, eqb}
 use lib.IntN.{ℤ, pos}
 use lib.ListN.{length, getD}
@@ -12,7 +12,8 @@ use native.Mathlib.Omega.{arith}
 use Rattle.terms.specs.declared.Area.{Area}
 use Rattle.terms.specs.declared.Refusal.{Refusal}
 use Rattle.terms.specs.declared.Refusal.the-variants.{AreaLimit, SquareOutside, NumberOutside, TableLength, NotANumber, WrongShape, NoArea, LongLine}
-use Rattle.terms.specs.declared.Refusal.the-variants.{TooDeep, CornersCrossed, NoRoom, OriginLimit}
+use Rattle.terms.specs.declared.Refusal.the-variants.{TooDeep, CornersCrossed, NoRoom, OriginLimit, TooManySquares}
+use Rattle.terms.specs.Terms.{most-squares, lengths-accepted, squares-accepted}
 use Rattle.terms.specs.Terms.{longest-side, past-32-bits, length-accepted, accepted, area-refusal, refusal-number, Figures}
 use Rattle.terms.specs.Terms.{offset-accepted, origin-accepted, at-post, grid-accepted, grid-refusal, SignedFigures}
 
@@ -28,11 +29,13 @@ pub record Limits (w h : ℕ) : Type 0 where
   pub w-most : w ≤ longest-side
   pub h-least : 1 ≤ h
   pub h-most : h ≤ longest-side
+  pub squares-most : w * h ≤ most-squares
 
 pub limits : (w h : ℕ) → accepted w h ≡ true → Limits w h
 unfolding accepted
 limits w h e =
-    let both = and-eq-true-iff (length-accepted w) (length-accepted h) .0 e in
+    let all = and-eq-true-iff (lengths-accepted w h) (squares-accepted (w * h)) .0 e in
+    let both = and-eq-true-iff (length-accepted w) (length-accepted h) .0 (all .0) in
     let width = and-eq-true-iff (leb 1 w) (leb w longest-side) .0 (both .0) in
     let height = and-eq-true-iff (leb 1 h) (leb h longest-side) .0 (both .1) in
     record {
@@ -40,26 +43,59 @@ limits w h e =
       w-most = leb-true w longest-side (width .1);
       h-least = leb-true 1 h (height .0);
       h-most = leb-true h longest-side (height .1);
+      squares-most = leb-true (w * h) most-squares (all .1);
     }
 
 -- an accepted area's squares are a 32-bit number
 pub squares-limit : (w h : ℕ) → accepted w h ≡ true → w * h < past-32-bits
-squares-limit w h e =
-    let all = limits w h e in
-    let most : w * h ≤ longest-side * longest-side = mul-le-mul (all .w-most) (all .h-most) in
+squares-limit w h e = let most = limits w h e .squares-most in omega arith
+
+-- two lengths within the limit: their product, as the code forms it, has 64 bits
+pub squares-fit : (w h : ℕ) → lengths-accepted w h ≡ true → w * h < 18446744073709551616
+squares-fit w h e =
+    let both = and-eq-true-iff (length-accepted w) (length-accepted h) .0 e in
+    let w-most = leb-true w longest-side (and-eq-true-iff (leb 1 w) (leb w longest-side) .0 (both .0) .1) in
+    let h-most = leb-true h longest-side (and-eq-true-iff (leb 1 h) (leb h longest-side) .0 (both .1) .1) in
+    let most : w * h ≤ longest-side * longest-side = mul-le-mul w-most h-most in
     omega arith
 
--- "1: w or h is 0 or over 65,535": what an area is refused with that is not accepted
-pub area-refused-1 : (w h : ℕ) → accepted w h ≡ false → refusal-number (area-refusal w h) ≡ 1
+-- "1: w or h is 0 or over 65,535", and "13, directly after 1": what an area is refused with that is not accepted
+area-told : (w h : ℕ) {a : Bool} → lengths-accepted w h ≡ a → area-refusal w h ≡ cond a TooManySquares AreaLimit
 unfolding area-refusal
-area-refused-1 w h bad = refl
+area-told w h e = ap (λ (a : Bool). cond a TooManySquares AreaLimit) e
 
--- "12 .. directly after 1": which of the two a call that asks or answers squares gives, and what it learns where it goes on
-pub grid-refused-1 : (area : Area) → accepted (area .w) (area .h) ≡ false → refusal-number (grid-refusal area) ≡ 1
-grid-refused-1 area bad = rw bad (area-refused-1 (area .w) (area .h) bad)
+pub area-refused-1 : (w h : ℕ) → lengths-accepted w h ≡ false → refusal-number (area-refusal w h) ≡ 1
+area-refused-1 w h bad = ap refusal-number (area-told w h bad)
+
+pub area-refused-13 : (w h : ℕ) → lengths-accepted w h ≡ true → refusal-number (area-refusal w h) ≡ 13
+area-refused-13 w h ok = ap refusal-number (area-told w h ok)
+
+-- "An area of more than 16,777,216 squares is refused from now on", and with lengths within the limit no other is
+pub lengths-refused : (w h : ℕ) → lengths-accepted w h ≡ false → accepted w h ≡ false
+unfolding accepted
+lengths-refused w h bad = rw bad refl
+
+pub squares-refused : (w h : ℕ) → most-squares < w * h → accepted w h ≡ false
+unfolding accepted
+squares-refused w h more = rw (lt-leb (w * h) most-squares more) (and-false (lengths-accepted w h))
+
+pub squares-passed : (w h : ℕ) → lengths-accepted w h ≡ true → w * h ≤ most-squares → accepted w h ≡ true
+unfolding accepted
+squares-passed w h ok few = rw (ok, le-leb (w * h) most-squares few) refl
+
+-- "12 .. directly after 1", and 13 between them: which of the three a call that asks or answers squares gives, and what it learns where it goes on
+grid-told : (area : Area) {a : Bool} → accepted (area .w) (area .h) ≡ a → grid-refusal area ≡ cond a OriginLimit (area-refusal (area .w) (area .h))
+grid-told area e = ap (λ (a : Bool). cond a OriginLimit (area-refusal (area .w) (area .h))) e
+
+pub grid-refused-1 : (area : Area) → lengths-accepted (area .w) (area .h) ≡ false → refusal-number (grid-refusal area) ≡ 1
+grid-refused-1 area bad = ap refusal-number (grid-told area (lengths-refused (area .w) (area .h) bad)) ∙ area-refused-1 (area .w) (area .h) bad
+
+pub grid-refused-13 : (area : Area) → lengths-accepted (area .w) (area .h) ≡ true → accepted (area .w) (area .h) ≡ false
+    → refusal-number (grid-refusal area) ≡ 13
+grid-refused-13 area ok bad = ap refusal-number (grid-told area bad) ∙ area-refused-13 (area .w) (area .h) ok
 
 pub grid-refused-12 : (area : Area) → accepted (area .w) (area .h) ≡ true → refusal-number (grid-refusal area) ≡ 12
-grid-refused-12 area ok = rw ok
+grid-refused-12 area ok = ap refusal-number (grid-told area ok)
 
 pub grid-passed : (area : Area) → grid-accepted area ≡ true
     → (accepted (area .w) (area .h) ≡ true) × ((offset-accepted (area .ox) ≡ true) × (offset-accepted (area .oy) ≡ true))
@@ -84,7 +120,7 @@ is-off-grid area e failed = sym e ∙ not-true _ failed
 refusals : List Refusal
 refusals =
     AreaLimit ∷ SquareOutside ∷ NumberOutside ∷ TableLength ∷ NotANumber ∷ WrongShape ∷ NoArea ∷ LongLine ∷ TooDeep ∷ CornersCrossed ∷ NoRoom
-    ∷ OriginLimit ∷ []
+    ∷ OriginLimit ∷ TooManySquares ∷ []
 
 among : List Refusal → ℕ → List Refusal
 among [] n = []
@@ -107,6 +143,7 @@ numbered-back TooDeep = refl
 numbered-back CornersCrossed = refl
 numbered-back NoRoom = refl
 numbered-back OriginLimit = refl
+numbered-back TooManySquares = refl
 
 -- the refusal of a number, so that no two have one, and none has 0
 pub named : ℕ → Refusal

@@ -1,8 +1,8 @@
 -- The terms that every contract uses: which areas are accepted, the refusals' numbers, an answer's figures on paper, and that an area is judged first.
--- Document 01, "What is bought" and "Refusal numbers", the refusals of document 02, order 2, and the origin of its order 6.
+-- Document 01, "What is bought" and "Refusal numbers", the refusals of document 02, order 2, the origin of its order 6 and the limit of its order 7.
 use mathlib.Core.Bool.{Bool, _&&_, cond}
 use mathlib.Core.List.{List, [], _∷_}
-use Prim.Native.Nat.{ℕ}
+use Prim.Native.Nat.{ℕ, _*_}
 use lib.Dec.{leb}
 use lib.IntN.{ℤ, pos, negsuc}
 use lib.ListN.{replicate}
@@ -10,7 +10,7 @@ use lib.Signed.{leZ}
 use Rattle.terms.specs.declared.Area.{Area}
 use Rattle.terms.specs.declared.Refusal.{Refusal}
 use Rattle.terms.specs.declared.Refusal.the-variants.{AreaLimit, SquareOutside, NumberOutside, TableLength, NotANumber, WrongShape, NoArea, LongLine}
-use Rattle.terms.specs.declared.Refusal.the-variants.{TooDeep, CornersCrossed, NoRoom, OriginLimit}
+use Rattle.terms.specs.declared.Refusal.the-variants.{TooDeep, CornersCrossed, NoRoom, OriginLimit, TooManySquares}
 
 -- "An area has a width w and a height h, each from 1 to 65,535."
 abbrev pub longest-side : ℕ
@@ -19,12 +19,22 @@ longest-side = 65535
 abbrev pub length-accepted : ℕ → Bool
 length-accepted n = leb 1 n && leb n longest-side
 
-unfoldable pub accepted : (w h : ℕ) → Bool
-accepted w h = length-accepted w && length-accepted h
+abbrev pub lengths-accepted : (w h : ℕ) → Bool
+lengths-accepted w h = length-accepted w && length-accepted h
 
--- The refusal that an area gets which is not accepted: "w or h is 0 or over 65,535".
+-- Order 7: "An area of more than 16,777,216 squares is refused from now on".
+abbrev pub most-squares : ℕ
+most-squares = 16777216
+
+abbrev pub squares-accepted : ℕ → Bool
+squares-accepted n = leb n most-squares
+
+unfoldable pub accepted : (w h : ℕ) → Bool
+accepted w h = lengths-accepted w h && squares-accepted (w * h)
+
+-- The refusal that an area gets which is not accepted: "w or h is 0 or over 65,535", and "13, directly after 1".
 unfoldable pub area-refusal : (w h : ℕ) → Refusal
-area-refusal w h = AreaLimit
+area-refusal w h = cond (lengths-accepted w h) TooManySquares AreaLimit
 
 -- The refusals' numbers, in the table's words.
 abbrev pub refusal-number : Refusal → ℕ
@@ -52,6 +62,8 @@ refusal-number CornersCrossed = 10
 refusal-number NoRoom = 11
 -- order 6: "an origin beyond the range"
 refusal-number OriginLimit = 12
+-- order 7: "An area of more than 16,777,216 squares"
+refusal-number TooManySquares = 13
 
 -- So many blocks may hold a square that a call needs.
 abbrev pub most-blocks : ℕ
@@ -78,7 +90,8 @@ refused-with r values = record { refusal = refusal-number r; values = values }
 abbrev pub refused : Refusal → ℕ → Figures
 refused r n = refused-with r (replicate n 0)
 
--- "For library calls the order is 1, then ..": the answer of a call on an area that is accepted, else the area's refusal, where n values would be answered.
+-- "For library calls the order is 1, then ..", and 13 "directly after 1 and before everything else": the answer of a call on an area that is accepted, else
+-- the area's refusal, where n values would be answered.
 abbrev pub on-area : (w h n : ℕ) → Figures → Figures
 on-area w h n answer = cond (accepted w h) answer (refused (area-refusal w h) n)
 
@@ -97,7 +110,8 @@ origin-accepted ox oy = offset-accepted ox && offset-accepted oy
 abbrev pub at-post : (w h : ℕ) → Area
 at-post w h = record { w = w; h = h; ox = pos 0; oy = pos 0 }
 
--- "12 for an origin beyond the range, .. in calls that ask or answer squares directly after 1": whether such a call goes on, and the refusal where it does not.
+-- "12 for an origin beyond the range, .. in calls that ask or answer squares directly after 1", and so after 13, which is "directly after 1 and before
+-- everything else": whether such a call goes on, and the refusal where it does not.
 abbrev pub grid-accepted : Area → Bool
 grid-accepted area = accepted (area .w) (area .h) && origin-accepted (area .ox) (area .oy)
 
@@ -117,6 +131,9 @@ abbrev pub signed : Figures → SignedFigures
 signed f = record { refusal = f .refusal; values = in-signs (f .values) }
 
 -- How far a place lies east or north of the origin, from the difference; for a negative one a number that is no area's x or y. It renders no sentence.
+abbrev pub beyond-any-area : ℕ
+beyond-any-area = 4294967295
+
 abbrev pub distance-of : ℤ → ℕ
 distance-of (pos d) = d
-distance-of (negsuc d) = 4294967295
+distance-of (negsuc d) = beyond-any-area

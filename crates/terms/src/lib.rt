@@ -1,18 +1,22 @@
-// What every call shares: the area, whether it is accepted, and the refusals by name and number.
-ghost use mathlib.Core.Bool.{true};
+// What every call shares: the area with its origin, whether they are accepted, and the refusals by name and number.
 ghost use mathlib.Core.Path.{_≡_};
-ghost use Prim.Native.Nat.{_≤_};
-ghost use lib.IntN.{pos, _+ℤ_, _-ℤ_};
-ghost use Rattle.terms.specs.Terms.{length-accepted, accepted, area-refusal, refusal-number};
-ghost use Rattle.terms.specs.Terms.{longest-side, offset-accepted, origin-accepted, at-post, grid-accepted, grid-refusal, distance-of};
+ghost use lib.IntN.{_-ℤ_};
+ghost use Rattle.terms.specs.Terms.{length-accepted, lengths-accepted, squares-accepted, accepted, area-refusal, refusal-number};
+ghost use Rattle.terms.specs.Terms.{offset-accepted, origin-accepted, at-post, grid-accepted, grid-refusal, distance-of};
 
 // The longest width or height.
 const LONGEST_SIDE: u32 = 65535;
 
-// How far an origin may lie from the datum post, in x and in y.
-const WEST_MOST: i32 = -1000000;
+// The most squares of an area: the plotter keeps a square's number in 24 bits.
+const MOST_SQUARES: u64 = 16777216;
 
-const EAST_MOST: i32 = 1000000;
+// How far the x and the y of an origin may lie from the datum post.
+const LEAST_OFFSET: i32 = -1000000;
+
+const MOST_OFFSET: i32 = 1000000;
+
+// A distance that no area reaches.
+const BEYOND_ANY_AREA: u32 = 4294967295;
 
 // The least number that has not 32 bits.
 pub const PAST_32_BITS: u64 = 4294967296;
@@ -39,6 +43,7 @@ pub enum Refusal {
     CornersCrossed,
     NoRoom,
     OriginLimit,
+    TooManySquares,
 }
 
 // Whether a width or a height is within the limit.
@@ -51,9 +56,9 @@ fn is_length(n: u32) -> bool
     n <= LONGEST_SIDE
 }
 
-// Whether an area is within the limit.
-pub fn accepts(area: Area) -> bool
-    ensures { λ r. ⌜ r ≡ accepted (area .w) (area .h) ⌝ }
+// Whether both lengths of an area are within the limit.
+pub fn accepts_lengths(area: Area) -> bool
+    ensures { λ r. ⌜ r ≡ lengths-accepted (area .w) (area .h) ⌝ }
 {
     if is_length(area.w) {
         return is_length(area.h);
@@ -61,10 +66,32 @@ pub fn accepts(area: Area) -> bool
     false
 }
 
-// The refusal of an area that is not accepted.
+// Whether so many squares are within the limit.
+pub fn accepts_squares(n: u64) -> bool
+    ensures { λ r. ⌜ r ≡ squares-accepted n ⌝ }
+{
+    n <= MOST_SQUARES
+}
+
+// Whether an area is within the limits.
+pub fn accepts(area: Area) -> bool
+    ensures { λ r. ⌜ r ≡ accepted (area .w) (area .h) ⌝ }
+{
+    let w = area.w;
+    let h = area.h;
+    if accepts_lengths(area) {
+        return accepts_squares(w as u64 * h as u64);
+    }
+    false
+}
+
+// The refusal of an area that is not accepted. The lengths are judged before the squares.
 pub fn area_refusal(area: Area) -> Refusal
     ensures { λ r. ⌜ r ≡ area-refusal (area .w) (area .h) ⌝ }
 {
+    if accepts_lengths(area) {
+        return Refusal::TooManySquares;
+    }
     Refusal::AreaLimit
 }
 
@@ -72,10 +99,10 @@ pub fn area_refusal(area: Area) -> Refusal
 fn is_offset(o: i32) -> bool
     ensures { λ r. ⌜ r ≡ offset-accepted o ⌝ }
 {
-    if o < WEST_MOST {
+    if o < LEAST_OFFSET {
         return false;
     }
-    o <= EAST_MOST
+    o <= MOST_OFFSET
 }
 
 // Whether an origin is within the range.
@@ -120,14 +147,6 @@ pub fn grid_refusal(area: Area) -> Refusal
     area_refusal(area)
 }
 
-// A place on the site grid, so far east or north of the origin.
-pub fn shifted(o: i32, d: u32) -> i32
-    requires { ⌜ (offset-accepted o ≡ true) × (d ≤ longest-side) ⌝ }
-    ensures { λ r. ⌜ r ≡ o +ℤ pos d ⌝ }
-{
-    o + d as i32
-}
-
 // How far a place of the site grid lies east or north of the origin. One that lies before it is told as farther than any area reaches, so that one test
 // finds both. Two 32-bit numbers differ by up to 33 bits.
 pub fn distance(v: i32, o: i32) -> u32
@@ -135,7 +154,7 @@ pub fn distance(v: i32, o: i32) -> u32
 {
     let d = v as i64 - o as i64;
     if d < 0 {
-        return 4294967295;
+        return BEYOND_ANY_AREA;
     }
     d as u32
 }
@@ -157,5 +176,6 @@ pub fn refusal_number(r: Refusal) -> u32
         Refusal::CornersCrossed => 10,
         Refusal::NoRoom => 11,
         Refusal::OriginLimit => 12,
+        Refusal::TooManySquares => 13,
     }
 }

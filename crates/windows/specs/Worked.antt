@@ -1,5 +1,6 @@
 -- Windows worked by hand, as one table under one claim, which computes: runs of document 01's 3 by 4 area and of a 7 by 6 area, and each refusal of document
--- 02, order 2, before those that come after it; then windows on the site grid of its order 6, with origins about 0, at the range's ends and beyond them.
+-- 02, order 2, before those that come after it; then windows on the site grid of its order 6, with origins about 0, at the range's ends and beyond them, and
+-- the limit of its order 7.
 use mathlib.Core.Bool.{Bool, true, _&&_}
 use mathlib.Core.List.{List, [], _∷_}
 use Prim.Native.Nat.{ℕ}
@@ -88,6 +89,10 @@ worked =
     ∷ at 3 4 (pos 0) (pos 1000001) (pos 0) (pos 1000001) (pos 0) (pos 1000001) [] 12 0 []
     ∷ at 3 4 (pos 0) (negsuc 1000000) (pos 0) (negsuc 1000000) (pos 0) (negsuc 1000000) [] 12 0 []
     ∷ at 3 4 (pos 2147483647) (negsuc 2147483647) (pos 0) (pos 0) (pos 0) (pos 0) [] 12 0 []
+    -- 13 "directly after 1 and before everything else"
+    ∷ at 4096 4097 (pos 1000001) (pos 0) (pos 1) (pos 0) (pos 0) (pos 0) (90 ∷ []) 13 0 (90 ∷ [])
+    ∷ at 65535 65535 (pos 0) (pos 0) (pos 0) (pos 0) (pos 0) (pos 0) [] 13 0 []
+    ∷ at 65536 65535 (pos 0) (pos 0) (pos 0) (pos 0) (pos 0) (pos 0) [] 1 0 []
     -- 12 "directly after 1", and before 10 and 2
     ∷ at 0 4 (pos 1000001) (pos 0) (pos 1) (pos 0) (pos 0) (pos 0) [] 1 0 []
     ∷ at 3 65536 (pos 0) (negsuc 1000000) (pos 0) (pos 0) (pos 0) (pos 0) (90 ∷ []) 1 0 (90 ∷ [])

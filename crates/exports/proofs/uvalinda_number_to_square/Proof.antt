@@ -3,12 +3,13 @@
 use borrow.Author.Needs.{needs}
 use mathlib.Core.List.{_∷_}
 use mathlib.Core.Path.{_≡_, refl, sym, ap, ap₂, _∙_}
+use native.Mathlib.Omega.{arith}
 use lib.IntN.{pos}
 use lib.ListN.{drop}
 use Rattle.terms.specs.Terms.{in-signs}
 use Rattle.terms.proofs.Signs.{held}
 use Rattle.curve.specs.Grid.{number-to-square-at, square-figures}
-use Rattle.curve.proofs.Calls.{few-blocks}
+use Rattle.curve.proofs.Calls.{at-most-41-blocks}
 use Rattle.exports.specs.Boundary.{area-at}
 use Rattle.exports.proofs.Values.{kept-area, short, found}
 use Rattle.exports.proofs.uvalinda_number_to_square.Statement.{statement}
@@ -34,11 +35,10 @@ put-square-requires c κs =
     let square = told .before .before in
     let tested = square .before in
     let asked = tested .before .args in
-    let of = told .answer .given .0 in (
-      tested .if1 .left,
-      few-blocks (area-at (asked .w) (asked .h) (asked .ox) (asked .oy)) (asked .number) (of .0) (of .1 .0) (of .1 .1 .0)
-          (sym (due square) ∙ ap square-figures (told .answer .given .1)),
-    )
+    let of = told .answer .given .0 in
+    let few = at-most-41-blocks (area-at (asked .w) (asked .h) (asked .ox) (asked .oy)) (asked .number) (of .0) (of .1 .0) (of .1 .1 .0)
+    (sym (due square) ∙ ap square-figures (told .answer .given .1)) in
+    (tested .if1 .left, omega arith)
 
 returns-2 : tie.Need-returns-2
 returns-2 c =

@@ -1,8 +1,8 @@
--- `terms::shifted` meets its contract: an accepted origin and a coordinate of an area are small enough for the sum.
+-- `curve::shifted` meets its contract: an accepted origin and a coordinate of an area are small enough for the sum.
 use native.Mathlib.Omega.{arith}
 use Rattle.terms.proofs.Signs.{adds, added}
-use Rattle.terms.proofs.shifted.Statement.{statement}
-use Rattle.terms.proofs.shifted.Tie as tie
+use Rattle.curve.proofs.shifted.Statement.{statement}
+use Rattle.curve.proofs.shifted.Tie as tie
 
 cast-result : tie.Need-cast-result
 cast-result c = omega arith
