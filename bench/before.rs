@@ -1,6 +1,6 @@
 // The library of another commit and the one at hand, side by side in one process on the same inputs: the least time of many short rounds, of which a busy
-// machine disturbs few. A library from before areas had an origin is asked for the squares from (0, 0) on, the one at hand for those from its origin on.
-// Where they answer otherwise, the row is left to the reader of the change.
+// machine disturbs few. A library from before areas had an origin is asked for the squares from (0, 0) on, the one at hand for those from its origin on. All
+// areas are ones that both accept. Where they answer otherwise, the row is left to the reader of the change.
 #[path = "../tests/random.rs"]
 mod random;
 mod common;
@@ -26,7 +26,7 @@ mod after {
 }
 
 use common::{form, time};
-use random::{Lines, Random};
+use random::{sides, Lines, Random};
 use std::hint::black_box;
 
 // The least time of each of two rounds, taken in turn.
@@ -61,7 +61,7 @@ fn lookups(random: &mut Random) {
         let (one, other) = (|(x, y)| before::square_to_number(w, h, bx, by, x, y), |(x, y)| after::square_to_number(w, h, ax, ay, x, y));
         calls(&area, "square to number", (&from(bx, by), &from(ax, ay)), one, other);
     }
-    let areas: Vec<(u32, u32)> = (0..8000).map(|_| (random.below(70000) as u32, random.below(70000) as u32)).collect();
+    let areas: Vec<(u32, u32)> = (0..8000).map(|_| sides(random, 65535)).collect();
     let (one, other) = (|(w, h)| before::finish_square(w, h, bx, by), |(w, h)| after::finish_square(w, h, ax, ay));
     calls("random", "finish square", (&areas, &areas), one, other);
 }

@@ -13,13 +13,13 @@ mod versions;
 
 use common::{form, time};
 use library::*;
-use random::{Lines, Random};
+use random::{sides, Lines, Random};
 use std::fmt::Debug;
 use std::hint::black_box;
 
 // The areas whose tables are timed.
-const TABLES: [(u32, u32); 9] =
-    [(64, 64), (33, 47), (256, 256), (1024, 1024), (4096, 4096), (8192, 8192), (4095, 4097), (3000, 5000), (40000, 400)];
+const TABLES: [(u32, u32); 10] =
+    [(64, 64), (33, 47), (256, 256), (1024, 1024), (4096, 4096), (8192, 2048), (4095, 4097), (3000, 5000), (40000, 400), (65535, 256)];
 
 // Two functions over the same inputs: the least time a call of each.
 fn least<I: Copy, A: PartialEq + Debug>(inputs: &[I], mut one: impl FnMut(I) -> A, mut other: impl FnMut(I) -> A) -> (f64, f64) {
@@ -42,7 +42,7 @@ fn lookups(random: &mut Random) {
     println!("### Lookups and lines\n\nNanoseconds a call, the least of nine rounds over a million random inputs, or over 200,000 lines.\n");
     println!("| area | call | library | Rust | ratio |\n|---|---|---|---|---|");
     let (ox, oy) = black_box(ORIGIN);
-    for (w, h) in [(64, 64), (256, 256), (1024, 1024), (4096, 4096), (16384, 16384), (65535, 65535), (3000, 5000)] {
+    for (w, h) in [(64, 64), (256, 256), (1024, 1024), (4096, 4096), (16384, 1024), (65535, 256), (3000, 5000)] {
         let area = format!("{w} by {h}");
         let numbers: Vec<u32> = (0..1_000_000).map(|_| random.below(w as u64 * h as u64) as u32).collect();
         row(&area, "number to square", least(&numbers, |n| number_to_square(w, h, ox, oy, n), |n| versions::number_to_square(w, h, ox, oy, n)));
@@ -50,7 +50,7 @@ fn lookups(random: &mut Random) {
         let times = least(&squares, |(x, y)| square_to_number(w, h, ox, oy, x, y), |(x, y)| versions::square_to_number(w, h, ox, oy, x, y));
         row(&area, "square to number", times);
     }
-    let areas: Vec<(u32, u32)> = (0..1_000_000).map(|_| (random.below(70000) as u32, random.below(70000) as u32)).collect();
+    let areas: Vec<(u32, u32)> = (0..1_000_000).map(|_| sides(random, 65535)).collect();
     row("random", "finish square", least(&areas, |(w, h)| finish_square(w, h, ox, oy), |(w, h)| versions::finish_square(w, h, ox, oy)));
 }
 

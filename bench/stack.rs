@@ -1,8 +1,11 @@
-// The stack that each call takes at 65,535 by 65,535, in bytes, read from the compiled code on standard input (`objdump -dr --no-show-raw-insn`):
+// The stack that each call takes at 4,096 by 4,096, in bytes, read from the compiled code on standard input (`objdump -dr --no-show-raw-insn`):
 // what a function pushes and reserves and its return address, for the call and for all that it calls in turn. A walk calls itself once for each
 // block that it opens in another, so its share is taken as often as such blocks are nested.
 use std::collections::{BTreeMap, BTreeSet, HashMap};
 use std::io::Read;
+
+// An area in which a walk opens as many blocks, each in the one before, as in any of at most 16,777,216 squares: no other has more.
+const DEEPEST: (u32, u32) = (4096, 4096);
 
 fn even_half(length: u32) -> u32 {
     let half = length / 2;
@@ -93,11 +96,12 @@ fn main() {
     let mut code = String::new();
     std::io::stdin().read_to_string(&mut code).unwrap();
     let functions = read(&code);
-    let depth = nested(65535, 65535, &mut HashMap::new());
-    println!("### Stack\n\nFrom the compiled code, with the return addresses, at 65,535 by 65,535.\n");
+    let (w, h) = DEEPEST;
+    let depth = nested(w, h, &mut HashMap::new());
+    println!("### Stack\n\nFrom the compiled code, with the return addresses, at {w} by {h}.\n");
     println!("| call | bytes |\n|---|---|");
     for name in functions.keys().filter(|name| name.starts_with("uvalinda_")) {
         println!("| {name} | {} |", takes(name, &functions, depth));
     }
-    println!("\nA walk opens at most {depth} blocks of 65535 by 65535, each in the one before.");
+    println!("\nA walk opens at most {depth} blocks of {w} by {h}, each in the one before, and no more of any other area.");
 }

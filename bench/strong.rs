@@ -1,6 +1,7 @@
 // The best fill and the best check in safe Rust that we could write, to measure the library against: a square is one linear address, a direction a stride
 // between addresses, the kind is known when it is compiled, and blocks 2 wide and 2 or 3 deep are taken at once. A check by number stops at the first
 // wrong place.
+use crate::versions::accepted;
 
 pub fn even_half(length: u32) -> u32 {
     let half = length / 2;
@@ -114,13 +115,8 @@ fn look_through<const BY_SQUARE: bool>(table: &[u32], wrong: &mut Wrong, number:
 
 // Why a table of this length is neither filled nor checked, if it is not.
 pub fn judged(w: u32, h: u32, length: usize) -> Result<(), u32> {
-    if !(1..=65535).contains(&w) || !(1..=65535).contains(&h) {
-        return Err(1);
-    }
-    if length as u64 != w as u64 * h as u64 {
-        return Err(4);
-    }
-    Ok(())
+    accepted(w, h)?;
+    if length == (w * h) as usize { Ok(()) } else { Err(4) }
 }
 
 #[inline(never)]

@@ -1,17 +1,18 @@
 // The same algorithms in plain, safe Rust, to measure the library against. They are not inlined into the measurement, as a call into a library is not.
 use crate::common::Area;
 
-fn accepted(w: u32, h: u32) -> bool {
-    (1..=65535).contains(&w) && (1..=65535).contains(&h)
+pub fn accepted(w: u32, h: u32) -> Result<(), u32> {
+    match () {
+        _ if !(1..=65535).contains(&w) || !(1..=65535).contains(&h) => Err(1),
+        _ if w * h > 16_777_216 => Err(13),
+        _ => Ok(()),
+    }
 }
 
 fn granted(w: u32, h: u32, ox: i32, oy: i32) -> Result<(), u32> {
     let in_range = |c: i32| (-1_000_000..=1_000_000).contains(&c);
-    match () {
-        _ if !accepted(w, h) => Err(1),
-        _ if !in_range(ox) || !in_range(oy) => Err(12),
-        _ => Ok(()),
-    }
+    accepted(w, h)?;
+    if in_range(ox) && in_range(oy) { Ok(()) } else { Err(12) }
 }
 
 fn even_half(length: u32) -> u32 {
@@ -170,10 +171,8 @@ fn walk(k: Block, w: i32, visit: &mut impl FnMut(u32)) -> u64 {
 
 // The whole area as a block, if a table of this length can be filled or checked for it.
 fn whole(w: u32, h: u32, length: usize) -> Result<Block, u32> {
-    if !accepted(w, h) {
-        return Err(1);
-    }
-    if length as u64 != w as u64 * h as u64 {
+    accepted(w, h)?;
+    if length != (w * h) as usize {
         return Err(4);
     }
     Ok(Block { start: (0, 0), run: (1, 0), a: w as i32, side: (0, 1), b: h as i32 })

@@ -129,7 +129,8 @@ struct Window(i32, i32, i32, i32);
 // The window as the whole area's pane, unless it is refused.
 fn pane(area: Area, v: Window) -> Option<Pane> {
     let Area { w, h, ox, oy } = area;
-    let granted = (1..=65535).contains(&w) && (1..=65535).contains(&h) && ox.unsigned_abs().max(oy.unsigned_abs()) <= 1_000_000;
+    let accepted = (1..=65535).contains(&w) && (1..=65535).contains(&h) && w * h <= 16_777_216;
+    let granted = accepted && ox.unsigned_abs().max(oy.unsigned_abs()) <= 1_000_000;
     if !granted || v.0 > v.2 || v.1 > v.3 {
         return None;
     }

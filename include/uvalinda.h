@@ -1,11 +1,11 @@
 /*
  * Uvalinda: numbers the squares of a rectangle along the Gilbert curve.
  *
- * An area is w squares wide and h high, each from 1 to 65,535; its numbers run from 0 to w * h - 1. Its squares lie on the site grid, counted from a
- * datum post: those from (ox, oy), the area's origin, to (ox + w - 1, oy + h - 1). Each of ox and oy is from -1,000,000 to 1,000,000; a site that
- * counts from the area's own corner has origin 0, 0. Calls that ask or answer squares take the origin behind w and h, and have squares as int32_t;
- * numbers, tables, checks and counts of blocks do not depend on it. Every call takes any numbers at all and comes to an end; nothing has to be
- * checked before.
+ * An area is w squares wide and h high, each from 1 to 65,535, and has at most 16,777,216 squares in all: 4,096 by 4,096 passes, 4,096 by 4,097 does
+ * not. Its numbers run from 0 to w * h - 1, and so take 24 bits at most. Its squares lie on the site grid, counted from a datum post: those from
+ * (ox, oy), the area's origin, to (ox + w - 1, oy + h - 1). Each of ox and oy is from -1,000,000 to 1,000,000; a site that counts from the area's own
+ * corner has origin 0, 0. Calls that ask or answer squares take the origin behind w and h, and have squares as int32_t; numbers, tables, checks and
+ * counts of blocks do not depend on it. Every call takes any numbers at all and comes to an end; nothing has to be checked before.
  *
  * What a call returns: 0, or the number of a refusal (UVALINDA_AREA_LIMIT and so on), or UVALINDA_SHORT_RESULT.
  *
@@ -16,7 +16,7 @@
  * refuse.
  *
  * Who owns what: every pointer is lent for the time of the call. The library keeps nothing, allocates nothing and has no state, so calls from
- * several threads do not disturb each other; a fill or a check of the largest area takes under 9 KB of stack on x86-64 and on Arm. A pointer
+ * several threads do not disturb each other; a fill or a check of any area takes under 8 KB of stack on x86-64, and by its frames on Arm. A pointer
  * is followed by its length, in places (in bytes, for a line), and may be null where that length is 0. What the caller has to see to, since C
  * cannot: a pointer has as many places as its length says, and what is written to overlaps nothing else that the same call was lent.
  *
@@ -42,7 +42,7 @@
 extern "C" {
 #endif
 
-/* What a call returns. 1 to 12 are the refusals; which of them a call can give is said with the call. */
+/* What a call returns. 1 to 13 are the refusals; which of them a call can give is said with the call. */
 #define UVALINDA_ANSWERED 0u        /* not refused */
 #define UVALINDA_AREA_LIMIT 1u      /* w or h is 0 or over 65,535 */
 #define UVALINDA_SQUARE_OUTSIDE 2u  /* x < ox, y < oy, x >= ox + w or y >= oy + h, in whole numbers; of a square or of a window's corner */
@@ -56,6 +56,7 @@ extern "C" {
 #define UVALINDA_CORNERS_CROSSED 10u /* x0 > x1 or y0 > y1 */
 #define UVALINDA_NO_ROOM 11u        /* there are more runs than whole pairs of room; the value tells how many runs there are */
 #define UVALINDA_ORIGIN_LIMIT 12u   /* ox or oy is under -1,000,000 or over 1,000,000 */
+#define UVALINDA_TOO_MANY_SQUARES 13u /* the area has more than 16,777,216 squares */
 #define UVALINDA_SHORT_RESULT 255u  /* `result` or `blocks` is too short: nothing was done */
 
 /* How many values each call writes. */
@@ -75,29 +76,29 @@ extern "C" {
 #define UVALINDA_REPLY_ORIGIN 4
 
 /*
- * The square of a number. Values: x, y, and how many blocks of the division hold the square.
- * Refusals, in this order: AREA_LIMIT, ORIGIN_LIMIT, NUMBER_OUTSIDE, TOO_DEEP.
+ * The square of a number. Values: x, y, and how many blocks of the division hold the square, at most 41.
+ * Refusals, in this order: AREA_LIMIT, TOO_MANY_SQUARES, ORIGIN_LIMIT, NUMBER_OUTSIDE, TOO_DEEP.
  */
 uint32_t uvalinda_number_to_square(uint32_t w, uint32_t h, int32_t ox, int32_t oy, uint32_t number, int32_t *result, size_t result_length);
 
 /*
- * The number of a square. Values: the number, and how many blocks of the division hold the square.
- * Refusals, in this order: AREA_LIMIT, ORIGIN_LIMIT, SQUARE_OUTSIDE, TOO_DEEP.
+ * The number of a square. Values: the number, and how many blocks of the division hold the square, at most 41.
+ * Refusals, in this order: AREA_LIMIT, TOO_MANY_SQUARES, ORIGIN_LIMIT, SQUARE_OUTSIDE, TOO_DEEP.
  */
 uint32_t uvalinda_square_to_number(uint32_t w, uint32_t h, int32_t ox, int32_t oy, int32_t x, int32_t y, uint32_t *result, size_t result_length);
 
 /*
  * The finish square of an area, where a crew stands at the end: the square of number w * h - 1. Values: x, y. From the origin it lies (w - 1, 0) off,
  * except for width 1 with height above 1, where that is (0, h - 1), and for odd width of 3 or more with height 2, where it is (w - 2, 0).
- * Refusals, in this order: AREA_LIMIT, ORIGIN_LIMIT.
+ * Refusals, in this order: AREA_LIMIT, TOO_MANY_SQUARES, ORIGIN_LIMIT.
  */
 uint32_t uvalinda_finish_square(uint32_t w, uint32_t h, int32_t ox, int32_t oy, int32_t *result, size_t result_length);
 
 /*
  * Fills a table of exactly w * h places, in which a square counts from the area's own corner whatever the origin is: (0, 0) is the first. By number:
- * place i gets y * w + x of square number i. By square: place y * w + x gets the square's number. Value, of 64 bits since it can exceed 32: how many
- * blocks the division has.
- * Refusals, in this order: AREA_LIMIT, TABLE_LENGTH, TOO_DEEP. The table is then as it was, as it is at SHORT_RESULT.
+ * place i gets y * w + x of square number i. By square: place y * w + x gets the square's number. The largest table has 16,777,216 places, 64 MiB.
+ * Value, of 64 bits: how many blocks the division has. They can be more than the area has squares, and are at most 33,554,431.
+ * Refusals, in this order: AREA_LIMIT, TOO_MANY_SQUARES, TABLE_LENGTH, TOO_DEEP. The table is then as it was, as it is at SHORT_RESULT.
  */
 uint32_t uvalinda_fill_by_number(uint32_t w, uint32_t h, uint32_t *table, size_t table_length, uint64_t *blocks, size_t blocks_length);
 uint32_t uvalinda_fill_by_square(uint32_t w, uint32_t h, uint32_t *table, size_t table_length, uint64_t *blocks, size_t blocks_length);
@@ -106,7 +107,7 @@ uint32_t uvalinda_fill_by_square(uint32_t w, uint32_t h, uint32_t *table, size_t
  * Checks a table of exactly w * h places against what the fill of the same kind would write. Values: 0, 0, 0 where it is right; else 1, the
  * first wrong place, and the value due there. A check by number stops there: no part of the table that begins behind that place is looked at. One
  * by square goes through the whole table.
- * Refusals, in this order: AREA_LIMIT, TABLE_LENGTH, TOO_DEEP.
+ * Refusals, in this order: AREA_LIMIT, TOO_MANY_SQUARES, TABLE_LENGTH, TOO_DEEP.
  */
 uint32_t uvalinda_check_by_number(uint32_t w, uint32_t h, const uint32_t *table, size_t table_length, uint32_t *result, size_t result_length);
 uint32_t uvalinda_check_by_square(uint32_t w, uint32_t h, const uint32_t *table, size_t table_length, uint32_t *result, size_t result_length);
@@ -115,8 +116,8 @@ uint32_t uvalinda_check_by_square(uint32_t w, uint32_t h, const uint32_t *table,
  * The numbers of the squares with x from x0 to x1 and y from y0 to y1, ends included, as runs: the pairs (first, last) go to `runs` one behind the
  * other, ascending, no two runs touching or overlapping. Places behind the last pair are not written; room is whole pairs, so that an odd last place
  * never is. Value: how many runs there are, also at NO_ROOM.
- * Refusals, in this order: AREA_LIMIT, ORIGIN_LIMIT, CORNERS_CROSSED, SQUARE_OUTSIDE for a corner outside the area, NO_ROOM, TOO_DEEP. `runs` is then
- * as it was, as it is at SHORT_RESULT. A window of W by H squares takes time by its border, W + H, not by its area.
+ * Refusals, in this order: AREA_LIMIT, TOO_MANY_SQUARES, ORIGIN_LIMIT, CORNERS_CROSSED, SQUARE_OUTSIDE for a corner outside the area, NO_ROOM,
+ * TOO_DEEP. `runs` is then as it was, as it is at SHORT_RESULT. A window of W by H squares takes time by its border, W + H, not by its area.
  *
  * Who does not know how much room to lend asks first with none:
  *
@@ -142,7 +143,7 @@ uint32_t uvalinda_runs_for_window(uint32_t w, uint32_t h, int32_t ox, int32_t oy
 /*
  * Answers one order line: `AREA w h`, `ORIGIN ox oy`, `N i` or `S x y`, any bytes, without the newline. The caller keeps the area in force as four
  * numbers, w, h, ox and oy, begins with 0 each for none, and hands on from line to line what the last call left. Numbers that are no accepted area,
- * or an origin beyond the range, count as none.
+ * such as one of too many squares, or an origin beyond the range, count as none.
  *
  * Which area is in force after the line: an accepted AREA line sets w and h, and the origin to 0 0. An accepted ORIGIN line sets the origin,
  * whatever it was: it does not add to it. A refused line whose first bytes are AREA or ORIGIN leaves no area, whatever it is refused for. No other
@@ -159,7 +160,7 @@ uint32_t uvalinda_runs_for_window(uint32_t w, uint32_t h, int32_t ox, int32_t oy
  *   UVALINDA_REPLY_NUMBER, number, blocks, 0; or
  *   UVALINDA_REPLY_REFUSED, 0, 0, 0.
  * Refusals, in this order: LONG_LINE, WRONG_SHAPE, NOT_A_NUMBER, NO_AREA for any line but AREA, then those of the call that the line asks for; of an
- * ORIGIN line ORIGIN_LIMIT.
+ * AREA line AREA_LIMIT and TOO_MANY_SQUARES, of an ORIGIN line ORIGIN_LIMIT.
  *
  * A form line by line, each under the area that the one before it left:
  *

@@ -1,6 +1,6 @@
 // boundary SEED: the library's C functions against the independent reading of documents 01 and 02: every area up to 40 by 40 whole, those up to 12 by 12 from
-// many origins, the finish square of every area up to 300 by 300, the even half of every length, and random and hostile arguments by the hundred thousand.
-// The seed is printed, and what was asked, where an answer differs.
+// many origins, the finish square of every area up to 300 by 300, the even half of every length, areas at the limit of squares, and random and hostile
+// arguments by the hundred thousand. The seed is printed, and what was asked, where an answer differs.
 mod expected;
 #[allow(dead_code)] // the way down to a number is not needed here
 mod independent;
@@ -10,7 +10,8 @@ mod random;
 mod raw;
 
 use expected::{due, in_force, line_due, told, untouched, Area, Told, UNTOUCHED};
-use random::{near, near_from, origin, Lines, Random};
+use independent::Answer;
+use random::{near, near_from, origin, sides, sides_at_limit, Lines, Random};
 
 const MOST: u64 = 4294967295;
 
@@ -63,13 +64,20 @@ fn compare_line(area: Area, line: &[u8]) {
     assert_eq!(handle_line(area, line, 9), line_due(area, line, 9), "line {:?} under {area:?}", String::from_utf8_lossy(line));
 }
 
+// A lookup reports at most 41 blocks; they are the last of its values.
+fn few_blocks(answer: &Answer) -> bool {
+    answer.as_ref().map_or(true, |values| values[values.len() - 1] <= 41)
+}
+
 fn compare_number(area: Area, number: u32, length: usize) {
     let answer = independent::number_to_square(area.into(), number.into());
+    assert!(few_blocks(&answer), "number {number} of {area:?}: {answer:?}");
     assert_eq!(number_to_square(area, number, length), due(&answer, 3, length), "number {number} of {area:?} into {length} places");
 }
 
 fn compare_square(area: Area, x: i32, y: i32, length: usize) {
     let answer = independent::square_to_number(area.into(), x.into(), y.into());
+    assert!(few_blocks(&answer), "square ({x}, {y}) of {area:?}: {answer:?}");
     assert_eq!(square_to_number(area, x, y, length), due(&answer, 2, length), "square ({x}, {y}) of {area:?} into {length} places");
 }
 
@@ -158,37 +166,34 @@ fn tables(random: &mut Random, w: u32, h: u32, places: usize, length: usize) {
     }
 }
 
-// Document 01's cases for areas too large to list, with the values that it gives, and the squares that most blocks hold; document 02's finish squares.
+// Document 01's cases for areas too large to list, of which document 02 refuses the largest, and a square that most blocks hold; document 02's finish squares.
 fn worked_cases() {
-    let found = |w, h, number| number_to_square(Area::new(w, h), number, 3).1;
-    assert_eq!(found(65535, 65535, 4294836224)[..2], [65534, 0]);
-    assert_eq!(found(65535, 65535, 1163187540), [16382, 32768, 31]);
-    assert_eq!(found(4096, 4096, 5592404), [0, 4094, 24]);
-    assert_eq!(square_to_number(Area::new(65535, 65535), 16382, 32768, 2), (0, vec![1163187540, 31]));
+    assert_eq!(number_to_square(Area::new(65535, 65535), 4294836224, 3), (13, vec![0, 0, 0]));
+    assert_eq!(number_to_square(Area::new(4096, 4096), 5592404, 3), (0, vec![0, 4094, 24]));
     assert_eq!(square_to_number(Area::new(4096, 4096), 0, 4094, 2), (0, vec![5592404, 24]));
     assert_eq!(number_to_square(Area::new(65536, 1), 0, 3), (1, vec![0, 0, 0]));
     assert_eq!(number_to_square(Area::new(0, 5), 0, 3), (1, vec![0, 0, 0]));
     for places in [11, 13] {
         assert_eq!(fill(3, 4, false, &mut vec![7; places], 1), (4, vec![0]));
     }
-    for (w, h, x, y) in [(5, 2, 3, 0), (3, 2, 1, 0), (65535, 2, 65533, 0), (1, 7, 0, 6), (1, 1, 0, 0), (4, 2, 3, 0), (65535, 65535, 65534, 0)] {
+    for (w, h, x, y) in [(5, 2, 3, 0), (3, 2, 1, 0), (65535, 2, 65533, 0), (1, 7, 0, 6), (1, 1, 0, 0), (4, 2, 3, 0), (65535, 256, 65534, 0)] {
         assert_eq!(finish_square(Area::new(w, h), 2), (0, vec![x, y]));
         let line = format!("AREA {w} {h}").into_bytes();
         assert_eq!(handle_line(Area::new(0, 0), &line, 8), (0, vec![w.into(), h.into(), 0, 0, 1, w as i128 * h as i128, x, y]));
     }
 }
 
-// Document 02's site grid by hand: squares about a post, the ends of the origin's range, and 12 directly after 1.
+// Document 02's site grid by hand: squares about a post, the ends of the origin's range, and 12 directly after what is refused for the area.
 fn site_grid() {
     let area = Area::new(3, 4).at(-5, 7);
     assert_eq!(number_to_square(area, 8, 3), (0, vec![-3, 8, 3]));
     assert_eq!(square_to_number(area, -3, 8, 2), (0, vec![8, 3]));
     assert_eq!(square_to_number(area, 2, 1, 2), (2, vec![0, 0]));
     assert_eq!(finish_square(area, 2), (0, vec![-3, 7]));
-    let far = Area::new(65535, 65535).at(1_000_000, -1_000_000);
-    assert_eq!(number_to_square(far, 1163187540, 3), (0, vec![1_016_382, -967_232, 31]));
-    assert_eq!(square_to_number(far, 1_016_382, -967_232, 2), (0, vec![1163187540, 31]));
-    assert_eq!(finish_square(far, 2), (0, vec![1_065_534, -1_000_000]));
+    let far = Area::new(4096, 4096).at(1_000_000, -1_000_000);
+    assert_eq!(number_to_square(far, 5592404, 3), (0, vec![1_000_000, -995_906, 24]));
+    assert_eq!(square_to_number(far, 1_000_000, -995_906, 2), (0, vec![5592404, 24]));
+    assert_eq!(finish_square(Area::new(65535, 256).at(1_000_000, -1_000_000), 2), (0, vec![1_065_534, -1_000_000]));
     for (ox, oy) in [(1_000_001, 0), (0, 1_000_001), (-1_000_001, 0), (0, -1_000_001), (i32::MIN, 0), (0, i32::MAX)] {
         let beyond = Area::new(3, 4).at(ox, oy);
         assert_eq!(number_to_square(beyond, 12, 3), (12, vec![0, 0, 0]), "{beyond:?}");
@@ -196,7 +201,91 @@ fn site_grid() {
         assert_eq!(finish_square(beyond, 2), (12, vec![0, 0]), "{beyond:?}");
         assert_eq!(finish_square(Area { w: 0, ..beyond }, 2), (1, vec![0, 0]), "{beyond:?}");
         assert_eq!(number_to_square(Area { h: 65536, ..beyond }, 0, 3), (1, vec![0, 0, 0]), "{beyond:?}");
+        assert_eq!(square_to_number(Area { w: 65535, h: 257, ..beyond }, 0, 0, 2), (13, vec![0, 0]), "{beyond:?}");
     }
+}
+
+// Fills and checks, of either kind, of a table that is said to have so many places. Where they are refused none is looked at, so no such table is made.
+fn refused_tables(w: u32, h: u32, places: usize, refusal: u32) {
+    let fills = [raw::uvalinda_fill_by_number, raw::uvalinda_fill_by_square];
+    let checks = [raw::uvalinda_check_by_number, raw::uvalinda_check_by_square];
+    for (fill, check) in fills.into_iter().zip(checks) {
+        let mut table = [UNTOUCHED; 12];
+        let (mut blocks, mut judged) = ([7], [7; 3]);
+        let filled = unsafe { fill(w, h, table.as_mut_ptr(), places, blocks.as_mut_ptr(), 1) };
+        let checked = unsafe { check(w, h, table.as_ptr(), places, judged.as_mut_ptr(), 3) };
+        let found = (filled, blocks, checked, judged, table);
+        assert_eq!(found, (refusal, [0], refusal, [0; 3], [UNTOUCHED; 12]), "{w} by {h}, {places} places");
+    }
+}
+
+// An area at the limit by every call but a window, which has a program of its own: with origins within the range and beyond it, the first and the last of its
+// numbers and squares and those past them; tables of other lengths than its own; by an AREA line under another area; and as the area in force.
+fn edge(w: u32, h: u32) {
+    let (squares, places) = (w.wrapping_mul(h), w as usize * h as usize);
+    for area in [(0, 0), (-1_000_000, 1_000_000), (1_000_001, 0), (i32::MIN, i32::MAX)].map(|(ox, oy)| Area::new(w, h).at(ox, oy)) {
+        for number in [0, squares.wrapping_sub(1), squares, MOST as u32] {
+            compare_number(area, number, 3);
+        }
+        for (x, y) in [(0, 0), (-1, 0), (w as i32 - 1, 0), (w as i32, 0), (0, h as i32 - 1), (0, h as i32)] {
+            compare_square(area, area.ox.wrapping_add(x), area.oy.wrapping_add(y), 2);
+        }
+        compare_finish(area, 2);
+        for line in ["N 0", "N 16777215", "N 16777216", "S 0 0", "ORIGIN -1 1", "ORIGIN 0 1000001", "AREA 3 4", "AREA", "N x"] {
+            compare_line(area, line.as_bytes());
+        }
+    }
+    compare_line(Area::new(3, 4).at(-5, 7), format!("AREA {w} {h}").as_bytes());
+    let refusal = independent::accepted(w.into(), h.into()).err().unwrap_or(4);
+    for wrong in [0, 12, places.saturating_sub(1), places + 1] {
+        refused_tables(w, h, wrong, refusal as u32);
+    }
+}
+
+// Document 02's limit of squares: areas at it, and at those of the sides, by hand and at random. 24,929 by 673 and 65,281 by 257 have just one square too many.
+// No product of two sides could wrap in 32 bits and be taken for a smaller one: 65,535 by 65,535 is below 2^32.
+fn edges(random: &mut Random) {
+    let pass = [(4096, 4096), (8192, 2048), (2048, 8192), (4095, 4097), (24929, 672), (65281, 256), (65535, 256), (256, 65535), (65535, 1), (1, 65535)];
+    let over = [(4096, 4097), (4097, 4096), (8193, 2048), (8192, 2049), (65535, 257), (257, 65535), (65535, 65535)];
+    let one_over = [(24929, 673), (673, 24929), (65281, 257), (257, 65281)];
+    let wrong_sides = [(65536, 256), (256, 65536), (65536, 257), (65536, 65536), (65536, 1), (0, 65536), (65536, 0), (0, 65535), (MOST as u32, MOST as u32)];
+    for (refusal, areas) in [(0, &pass[..]), (13, &over), (13, &one_over), (1, &wrong_sides)] {
+        for &(w, h) in areas {
+            assert_eq!(finish_square(Area::new(w, h), 2).0, refusal, "{w} by {h}");
+            edge(w, h);
+        }
+    }
+    for _ in 0..2_000 {
+        let (w, h) = sides_at_limit(random);
+        edge(w, h);
+    }
+}
+
+// Refusal 13 by hand, beside each of those that also apply: of a call 1 comes before it, and all others after it; of a line 8, 6 and 5 come before it too.
+fn too_many_squares() {
+    for (w, h, refusal) in [(4096, 4097, 13), (65535, 257, 13), (65535, 65535, 13), (65536, 257, 1), (65536, 65536, 1), (0, 65536, 1)] {
+        let (near, far) = (Area::new(w, h), Area::new(w, h).at(-1_000_001, 0));
+        for area in [near, far] {
+            assert_eq!(number_to_square(area, 0, 3), (refusal, vec![0; 3]), "{area:?}");
+            assert_eq!(number_to_square(area, MOST as u32, 3), (refusal, vec![0; 3]), "{area:?}");
+            assert_eq!(square_to_number(area, i32::MAX, i32::MIN, 2), (refusal, vec![0; 2]), "{area:?}");
+            assert_eq!(finish_square(area, 2), (refusal, vec![0; 2]), "{area:?}");
+            assert_eq!(finish_square(area, 1).0, 255, "{area:?}");
+        }
+        refused_tables(w, h, 0, refusal);
+        refused_tables(w, h, 12, refusal);
+        for line in ["N 0", "S 0 0", "ORIGIN 1 1", "ORIGIN 0 1000001"] {
+            assert_eq!(handle_line(near, line.as_bytes(), 8), (7, vec![0; 8]), "line {line:?} under {near:?}");
+        }
+        let lines = [(format!("AREA {w} {h}"), refusal), (format!("AREA {w} {h} "), 6), (format!("AREA 0{w} {h}"), 5)];
+        for (line, returned) in lines.into_iter().chain([(format!("AREA {w} {h:060}"), 8)]) {
+            assert_eq!(handle_line(Area::new(3, 4).at(-5, 7), line.as_bytes(), 8), (returned, vec![0; 8]), "line {line:?}");
+        }
+    }
+    let set = vec![4096, 4096, 0, 0, 1, 16_777_216, 4095, 0];
+    assert_eq!(handle_line(Area::new(3, 4).at(-5, 7), b"AREA 4096 4096", 8), (0, set));
+    assert_eq!(handle_line(Area::new(4096, 4096), b"N 16777215", 8).1[4..7], [2, 4095, 0]);
+    assert_eq!(handle_line(Area::new(4096, 4096), b"N 16777216", 8).0, 3);
 }
 
 // A form by hand, each line under the area that the one before it left, with all that the call tells.
@@ -255,7 +344,7 @@ fn clearing() {
 
 // Four numbers that are no accepted area, or an origin beyond the range, count as none, whatever the line asks.
 fn hostile_states() {
-    let sides = [0, 1, 3, 65535, 65536, MOST as u32];
+    let sides = [0, 1, 3, 256, 4096, 4097, 65535, 65536, MOST as u32];
     let origins = [0, -1, 1_000_000, -1_000_000, 1_000_001, -1_000_001, i32::MIN, i32::MAX];
     let lines = ["N 0", "S 0 0", "S -1 -1", "S 1000000 -1000000", "AREA 3 4", "AREA 0 4", "ORIGIN 1 -2", "ORIGIN 0 1000001", "ORIGIN", "ORIGIN x y", "", "N x"];
     for (w, h) in sides.into_iter().flat_map(|w| sides.map(|h| (w, h))) {
@@ -289,13 +378,14 @@ fn lines_with(field: &str) -> [String; 7] {
 // Document 02's labels: a field of exactly ten digits may begin with zeros and asks as the plain number does, shorter and longer ones are refused as before.
 // Besides the cases that it gives, every field of up to eleven zeros and ones, with a minus and without.
 fn labels() {
-    let asked = |field: &str| handle_line(Area::new(65535, 65535), format!("N {field}").as_bytes(), 8);
-    for (padded, plain) in [("0000000030", "30"), ("0000000000", "0"), ("0004294967", "4294967"), ("0999999999", "999999999")] {
+    let asked = |field: &str| handle_line(Area::new(4096, 4096), format!("N {field}").as_bytes(), 8);
+    let answered = [("0000000030", "30", 0), ("0000000000", "0", 0), ("0004294967", "4294967", 0), ("0016777215", "16777215", 0)];
+    for (padded, plain, returned) in answered.into_iter().chain([("0016777216", "16777216", 3), ("0999999999", "999999999", 3)]) {
         assert_eq!(asked(padded), asked(plain), "{padded} and {plain}");
-        assert_eq!(asked(padded).0, 0, "{padded}");
+        assert_eq!(asked(padded).0, returned, "{padded}");
     }
     for none in ["07", "00", "000000030", "00000000030", "4294967296", "9999999999", "00000003E4", "-000000030", "-0000000030", "-30", "-0"] {
-        assert_eq!(asked(none), (5, vec![65535, 65535, 0, 0, 0, 0, 0, 0]), "{none}");
+        assert_eq!(asked(none), (5, vec![4096, 4096, 0, 0, 0, 0, 0, 0]), "{none}");
     }
     for length in 1..=11 {
         for bits in 0..1 << length {
@@ -341,8 +431,25 @@ fn side(random: &mut Random) -> u32 {
     }
 }
 
+// Two sides: at the limit of squares, hostile, or those of an accepted area.
+fn any_sides(random: &mut Random) -> (u32, u32) {
+    match random.below(4) {
+        0 => (side(random), side(random)),
+        1 => sides_at_limit(random),
+        _ => {
+            let most = random.of(&[300, 5000, 65535]);
+            sides(random, most)
+        }
+    }
+}
+
+fn any_area(random: &mut Random) -> Area {
+    let (w, h) = any_sides(random);
+    Area { w, h, ox: origin(random), oy: origin(random) }
+}
+
 fn lookup(random: &mut Random) {
-    let area = Area { w: side(random), h: side(random), ox: origin(random), oy: origin(random) };
+    let area = any_area(random);
     let length = random.of(&[0, 1, 2, 3, 4, 5, 256]);
     let number = near(random, area.w as u64 * area.h as u64);
     compare_number(area, number, length);
@@ -354,7 +461,7 @@ fn lookup(random: &mut Random) {
 // Tables of hostile areas; lengths 0, 20, one short, one long and right where the table is not too large to make.
 fn hostile_tables(random: &mut Random) {
     let (w, h) = match random.below(4) {
-        0 => (side(random), side(random)),
+        0 => any_sides(random),
         _ => (random.below(25) as u32, random.below(25) as u32),
     };
     let squares = w as usize * h as usize;
@@ -379,7 +486,7 @@ fn line(lines: &mut Lines, area: Area) -> Area {
     let random = &mut lines.random;
     let line = stretched(random, line);
     let area = match random.below(40) {
-        0 => Area { w: side(random), h: side(random), ox: origin(random), oy: origin(random) },
+        0 => any_area(random),
         1 => area.at(origin(random), origin(random)),
         _ => area,
     };
@@ -390,29 +497,23 @@ fn line(lines: &mut Lines, area: Area) -> Area {
     if length < 8 { area } else { in_force(&answer) }
 }
 
-// Lengths are compared whole: a table of 2^32 + 12 places is not one of 12. No such table is made, since none of its places is looked at.
-fn long_lengths() {
-    let places = (1usize << 32) + 12;
-    let mut table = [UNTOUCHED; 12];
-    let (mut blocks, mut judged) = ([7], [7; 3]);
-    let fill = unsafe { raw::uvalinda_fill_by_number(3, 4, table.as_mut_ptr(), places, blocks.as_mut_ptr(), 1) };
-    let check = unsafe { raw::uvalinda_check_by_number(3, 4, table.as_ptr(), places, judged.as_mut_ptr(), 3) };
-    assert_eq!((fill, blocks, check, judged, table), (4, [0], 4, [0; 3], [UNTOUCHED; 12]));
-}
-
 fn main() {
     let seed = std::env::args().nth(1).map_or(1, |word| word.parse().expect("a seed"));
     println!("boundary: seed {seed}");
     let mut random = Random::from(seed);
     worked_cases();
     site_grid();
+    too_many_squares();
+    edges(&mut random);
+    println!("boundary: 30 areas at the limits of sides and squares, and 2000 at random, by every call and by lines");
+    // Lengths are compared whole: a table of 2^32 + 12 places is not one of 12.
+    refused_tables(3, 4, (1 << 32) + 12, 4);
     site_form();
     clearing();
     hostile_states();
     even_halves();
     labels();
     signed_fields();
-    long_lengths();
     for w in 1..=40 {
         for h in 1..=40 {
             whole_area(w, h);
@@ -433,12 +534,12 @@ fn main() {
         }
     }
     for side in 1..=65535 {
-        for other in [1, 2, 3, 65535] {
+        for other in [1, 2, 3, 255, 256] {
             finish(side, other);
             finish(other, side);
         }
     }
-    println!("boundary: the finish square of every area up to 300 by 300, and of every area with a side of 1, 2, 3 or 65535, is its last number's");
+    println!("boundary: the finish square of every area up to 300 by 300, and of every area with a side of 1, 2, 3, 255 or 256, is its last number's");
     for (w, h) in [(65535, 1), (1, 65535), (65535, 2), (3, 65535), (300, 200), (181, 359), (512, 512)] {
         tables(&mut random, w, h, w as usize * h as usize, 4);
     }

@@ -1,7 +1,7 @@
 // guards: the library's C functions with every slice that they are lent laid against memory that may not be touched, once up to its end and once from
 // its beginning on. What a call may not alter lies in pages that can only be read: a line, a table under a check or a refused fill, a slice that is too
-// short. Where a check by number finds one of a table's first places wrong, all places behind them lie in such memory. Each answer is held to the independent
-// program's. A touch of anything else ends the program, which says what was asked.
+// short. Where a check by number finds one of a table's first places wrong, all places behind them lie in forbidden memory, and where an area is refused all
+// places do. Each answer is held to the independent program's. A touch of anything else ends the program, which says what was asked.
 #[allow(dead_code)] // areas with many origins are not needed here
 mod expected;
 #[allow(dead_code)] // whole traversals are not needed here
@@ -299,6 +299,20 @@ fn ends_where_wrong(room: &Room, w: u32, h: u32, places: usize) {
     }
 }
 
+// Fills and checks of an area that is refused, with a table of as many places as it would have, none of which may be read.
+fn refused_whole(room: &Room, w: u32, h: u32) {
+    let (answer, places) = (Err(independent::accepted(w.into(), h.into()).expect_err("an area that is refused")), w as usize * h as usize);
+    let table = |guard| room.lay(&[UNTOUCHED], guard, PROT_NONE);
+    for fill in [raw::uvalinda_fill_by_number, raw::uvalinda_fill_by_square] {
+        let call = |blocks, length, guard| unsafe { fill(w, h, table(guard), places, blocks, length) };
+        room.ask::<u64>(&format!("fill of {w} by {h}, all of its places"), 1, |length| due(&answer, 1, length), call);
+    }
+    for check in [raw::uvalinda_check_by_number, raw::uvalinda_check_by_square] {
+        let call = |result, length, guard| unsafe { check(w, h, table(guard), places, result, length) };
+        room.ask(&format!("check of {w} by {h}, all of its places"), 3, |length| due(&answer, 3, length), call);
+    }
+}
+
 // Lines of every length up to 70 bytes and some longer, cut from right lines and from ones that go on for ever; then random lines, each under the area that
 // the one before it left.
 fn lines(room: &Room) {
@@ -338,13 +352,20 @@ fn main() {
     for (w, h) in [(65535, 1), (1, 65535), (65535, 3), (2, 65535), (300, 200)] {
         large_area(&room, Area::new(w, h).at(-100, 1), &[w as usize * h as usize, 65_535, 65_536]);
     }
-    large_area(&room, Area::new(65535, 65535).at(1_000_000, -1_000_000), &[0, 12]);
-    large_area(&room, Area::new(65535, 65535).at(i32::MAX, i32::MIN), &[]);
+    for (w, h) in [(4096, 4096), (65535, 256), (256, 65535), (4096, 4097), (65535, 257), (65535, 65535)] {
+        large_area(&room, Area::new(w, h).at(1_000_000, -1_000_000), &[0, 12]);
+        large_area(&room, Area::new(w, h).at(i32::MAX, i32::MIN), &[]);
+    }
     for (w, h) in [(65536, 1), (1, 65536), (65536, 65536), (u32::MAX, 1), (1, u32::MAX), (u32::MAX, u32::MAX), (0, 65536)] {
         large_area(&room, Area::new(w, h), &[0, 1, 65_536]);
     }
+    for (w, h) in [(4096, 4097), (4097, 4096), (24929, 673), (257, 65281), (65535, 257), (65535, 65535), (65536, 1), (65536, 65536)] {
+        refused_whole(&room, w, h);
+        windows(&room, Area::new(w, h).at(-6, 1_000_000));
+    }
     ends_where_wrong(&room, 4_096, 4_096, 64);
-    ends_where_wrong(&room, 65_535, 65_535, 4);
+    ends_where_wrong(&room, 65_535, 256, 4);
+    ends_where_wrong(&room, 256, 65_535, 4);
     lines(&room);
     println!("guards: {} calls, and none touches what it was not lent", room.calls.get());
 }

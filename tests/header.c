@@ -36,7 +36,7 @@ static void lookups(void) {
     EXPECT(found[0] == 3 && found[1] == 0);
     EXPECT(uvalinda_finish_square(1, 7, 0, 0, found, UVALINDA_FINISH_PLACES) == UVALINDA_ANSWERED);
     EXPECT(found[0] == 0 && found[1] == 6);
-    EXPECT(uvalinda_finish_square(65535, 65535, 0, 0, found, UVALINDA_FINISH_PLACES) == UVALINDA_ANSWERED);
+    EXPECT(uvalinda_finish_square(65535, 256, 0, 0, found, UVALINDA_FINISH_PLACES) == UVALINDA_ANSWERED);
     EXPECT(found[0] == 65534 && found[1] == 0);
     EXPECT(uvalinda_finish_square(0, 5, 0, 0, found, UVALINDA_FINISH_PLACES) == UVALINDA_AREA_LIMIT);
     EXPECT(found[0] == 0 && found[1] == 0);
@@ -61,6 +61,30 @@ static void origins(void) {
     EXPECT(uvalinda_number_to_square(3, 4, 0, 1000001, 12, found, UVALINDA_SQUARE_PLACES) == UVALINDA_ORIGIN_LIMIT);
     EXPECT(uvalinda_square_to_number(3, 4, INT32_MAX, 0, -1, 0, number, UVALINDA_NUMBER_PLACES) == UVALINDA_ORIGIN_LIMIT);
     EXPECT(uvalinda_square_to_number(0, 4, INT32_MAX, 0, -1, 0, number, UVALINDA_NUMBER_PLACES) == UVALINDA_AREA_LIMIT);
+}
+
+/* The limit of squares, by every call: the nearest areas that pass and that do not, and its refusal directly after that of a side and before all else. */
+static void limits(void) {
+    int32_t found[UVALINDA_SQUARE_PLACES];
+    uint32_t number[UVALINDA_NUMBER_PLACES], count[UVALINDA_RUNS_PLACES], judged[UVALINDA_CHECK_PLACES], places[3] = {7, 7, 7};
+    uint64_t blocks[UVALINDA_FILL_PLACES];
+    EXPECT(uvalinda_number_to_square(4096, 4096, 0, 0, 5592404, found, UVALINDA_SQUARE_PLACES) == UVALINDA_ANSWERED);
+    EXPECT(found[0] == 0 && found[1] == 4094 && found[2] == 24);
+    EXPECT(uvalinda_number_to_square(4096, 4096, 0, 0, 16777216, found, UVALINDA_SQUARE_PLACES) == UVALINDA_NUMBER_OUTSIDE);
+    EXPECT(uvalinda_number_to_square(4096, 4097, 1000001, 0, UINT32_MAX, found, UVALINDA_SQUARE_PLACES) == UVALINDA_TOO_MANY_SQUARES);
+    EXPECT(found[0] == 0 && found[1] == 0 && found[2] == 0);
+    EXPECT(uvalinda_square_to_number(4097, 4096, 1000001, 0, -1, 0, number, UVALINDA_NUMBER_PLACES) == UVALINDA_TOO_MANY_SQUARES);
+    EXPECT(uvalinda_square_to_number(65536, 257, 1000001, 0, -1, 0, number, UVALINDA_NUMBER_PLACES) == UVALINDA_AREA_LIMIT);
+    EXPECT(uvalinda_finish_square(65535, 65535, 0, -1000001, found, UVALINDA_FINISH_PLACES) == UVALINDA_TOO_MANY_SQUARES);
+    EXPECT(uvalinda_finish_square(65535, 256, 0, -1000001, found, UVALINDA_FINISH_PLACES) == UVALINDA_ORIGIN_LIMIT);
+    EXPECT(uvalinda_fill_by_number(4096, 4097, places, 3, blocks, UVALINDA_FILL_PLACES) == UVALINDA_TOO_MANY_SQUARES && blocks[0] == 0);
+    EXPECT(uvalinda_fill_by_square(4096, 4097, NULL, 0, blocks, UVALINDA_FILL_PLACES) == UVALINDA_TOO_MANY_SQUARES);
+    EXPECT(uvalinda_fill_by_square(4096, 4096, places, 3, blocks, UVALINDA_FILL_PLACES) == UVALINDA_TABLE_LENGTH);
+    EXPECT(uvalinda_check_by_number(4096, 4097, NULL, 0, judged, UVALINDA_CHECK_PLACES) == UVALINDA_TOO_MANY_SQUARES && judged[0] == 0);
+    EXPECT(uvalinda_check_by_square(4096, 4097, places, 3, judged, UVALINDA_CHECK_PLACES) == UVALINDA_TOO_MANY_SQUARES);
+    EXPECT(uvalinda_runs_for_window(65535, 257, 0, 1000001, 1, 0, 0, 9, places, 3, count, UVALINDA_RUNS_PLACES) == UVALINDA_TOO_MANY_SQUARES && count[0] == 0);
+    EXPECT(uvalinda_runs_for_window(65535, 256, 0, 0, 0, 0, 65534, 255, places, 2, count, UVALINDA_RUNS_PLACES) == UVALINDA_ANSWERED && count[0] == 1);
+    EXPECT(places[0] == 0 && places[1] == 16776959 && places[2] == 7);
 }
 
 /* What a caller does who does not know how much room to lend: it asks with none, and again with as much as it was told. */
@@ -142,7 +166,11 @@ static void lines(void) {
     EXPECT(handle("ORIGIN 0 1000001", now) == UVALINDA_ORIGIN_LIMIT && in_force(now, 0, 0, 0, 0));
     EXPECT(handle("ORIGIN 0 1", now) == UVALINDA_NO_AREA);
     EXPECT(handle("AREA 0 4", now) == UVALINDA_AREA_LIMIT && in_force(now, 0, 0, 0, 0));
-    EXPECT(handle("AREA 65535 65535", now) == UVALINDA_ANSWERED && replied(now, UVALINDA_REPLY_AREA, 4294836225, 65534, 0));
+    EXPECT(handle("AREA 4096 4096", now) == UVALINDA_ANSWERED && replied(now, UVALINDA_REPLY_AREA, 16777216, 4095, 0));
+    EXPECT(handle("AREA 4096 4097", now) == UVALINDA_TOO_MANY_SQUARES && in_force(now, 0, 0, 0, 0) && replied(now, UVALINDA_REPLY_REFUSED, 0, 0, 0));
+    EXPECT(handle("N 0", now) == UVALINDA_NO_AREA);
+    EXPECT(handle("AREA 65535 65535", now) == UVALINDA_TOO_MANY_SQUARES);
+    EXPECT(uvalinda_handle_line(4096, 4097, 0, 0, (const uint8_t *)"N 0", 3, now, UVALINDA_LINE_PLACES) == UVALINDA_NO_AREA);
     EXPECT(uvalinda_handle_line(3, 4, 0, 0, NULL, 0, now, UVALINDA_LINE_PLACES) == UVALINDA_WRONG_SHAPE);
     EXPECT(uvalinda_handle_line(3, 4, 0, 0, NULL, 0, now, UVALINDA_LINE_PLACES - 1) == UVALINDA_SHORT_RESULT);
 }
@@ -150,6 +178,7 @@ static void lines(void) {
 int main(void) {
     lookups();
     origins();
+    limits();
     windows();
     tables();
     lines();

@@ -65,18 +65,32 @@ fn straight(k: Block, n: i64) -> Square {
     if k.b == 1 { moved(k.start, k.run, n) } else { moved(k.start, k.side, n) }
 }
 
-fn curve(k: Block) -> Vec<Square> {
+// Visits the squares of a block in the order of their numbers.
+fn along(k: Block, visit: &mut impl FnMut(Square)) {
     let inner = parts(k);
     if inner.is_empty() {
-        return (0..k.a * k.b).map(|n| straight(k, n)).collect();
+        (0..k.a * k.b).for_each(|n| visit(straight(k, n)));
     }
-    inner.into_iter().flat_map(curve).collect()
+    for part in inner {
+        along(part, visit);
+    }
+}
+
+fn curve(k: Block) -> Vec<Square> {
+    let mut squares = vec![];
+    along(k, &mut |s| squares.push(s));
+    squares
 }
 
 fn blocks(k: Block) -> Vec<Block> {
     let mut all = vec![k];
     all.extend(parts(k).into_iter().flat_map(blocks));
     all
+}
+
+// How many blocks the division has.
+fn block_count(k: Block) -> i64 {
+    1 + parts(k).into_iter().map(block_count).sum::<i64>()
 }
 
 // The most blocks that hold one and the same square.
@@ -196,16 +210,20 @@ impl Area {
 // An answer: the refusal's number, or the values.
 pub type Answer = Result<Vec<i64>, i64>;
 
-pub fn accepted(w: i64, h: i64) -> bool {
-    (1..=65535).contains(&w) && (1..=65535).contains(&h)
+// Why every call refuses an area, if it does: 1, and directly after it 13 for more than 16,777,216 squares, document 02, order 7.
+pub fn accepted(w: i64, h: i64) -> Result<(), i64> {
+    let in_range = |side: i64| (1..=65535).contains(&side);
+    match () {
+        _ if !in_range(w) || !in_range(h) => Err(1),
+        _ if w * h > 16_777_216 => Err(13),
+        _ => Ok(()),
+    }
 }
 
-// Why a call that asks or answers squares is refused for its area, if it is: 1, and directly after it 12.
+// Why a call that asks or answers squares is refused for its area, if it is: as every call, then 12.
 pub fn granted(area: Area) -> Result<(), i64> {
     let in_range = |c: i64| (-1_000_000..=1_000_000).contains(&c);
-    if !accepted(area.w, area.h) {
-        return Err(1);
-    }
+    accepted(area.w, area.h)?;
     if in_range(area.ox) && in_range(area.oy) { Ok(()) } else { Err(12) }
 }
 
@@ -328,36 +346,34 @@ pub fn corner_steps(w: i64, h: i64) -> i64 {
 // A table of either kind as it is due.
 pub fn table_due(w: i64, h: i64, by_square: bool) -> Vec<u32> {
     let mut table = vec![0; (w * h) as usize];
-    for (number, s) in curve(whole(w, h)).into_iter().enumerate() {
+    let mut number = 0;
+    along(whole(w, h), &mut |s| {
         let place = (s.y * w + s.x) as usize;
         if by_square { table[place] = number as u32 } else { table[number] = place as u32 }
-    }
+        number += 1;
+    });
     table
 }
 
 // Why a call on a table of this length is refused, if it is.
-fn table_refusal(w: i64, h: i64, length: usize) -> Option<i64> {
+fn table_granted(w: i64, h: i64, length: usize) -> Result<(), i64> {
+    accepted(w, h)?;
     match () {
-        _ if !accepted(w, h) => Some(1),
-        _ if length as i64 != w * h => Some(4),
-        _ if deepest(whole(w, h)) > 64 => Some(9),
-        _ => None,
+        _ if length as i64 != w * h => Err(4),
+        _ if deepest(whole(w, h)) > 64 => Err(9),
+        _ => Ok(()),
     }
 }
 
 // A fill's answer: how many blocks the division has.
 pub fn fill(w: i64, h: i64, length: usize) -> Answer {
-    match table_refusal(w, h, length) {
-        Some(refusal) => Err(refusal),
-        None => Ok(vec![blocks(whole(w, h)).len() as i64]),
-    }
+    table_granted(w, h, length)?;
+    Ok(vec![block_count(whole(w, h))])
 }
 
 // A check's answer: 0, or 1 with the first wrong place and the value due there.
 pub fn check(w: i64, h: i64, by_square: bool, table: &[u32]) -> Answer {
-    if let Some(refusal) = table_refusal(w, h, table.len()) {
-        return Err(refusal);
-    }
+    table_granted(w, h, table.len())?;
     let due = table_due(w, h, by_square);
     match (0..due.len()).find(|&i| table[i] != due[i]) {
         None => Ok(vec![0, 0, 0]),

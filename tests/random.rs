@@ -1,4 +1,4 @@
-// Random numbers and random order lines, the same for the same seed.
+// Random numbers, areas and order lines, the same for the same seed.
 
 pub struct Random(u64);
 
@@ -39,6 +39,28 @@ pub fn near_from(random: &mut Random, from: i32, n: u64) -> i32 {
         _ => first + random.below(n.max(1)) as i64,
     };
     coordinate.clamp(least, most) as i32
+}
+
+// The most squares that an area may have.
+const MOST_SQUARES: u64 = 16_777_216;
+
+fn either_way(random: &mut Random, one: u64, other: u64) -> (u32, u32) {
+    random.of(&[(one as u32, other as u32), (other as u32, one as u32)])
+}
+
+// The sides of an accepted area, none over `most`: one of any length, and the other of any that the squares allow.
+pub fn sides(random: &mut Random, most: u64) -> (u32, u32) {
+    let one = 1 + random.below(most);
+    let other = 1 + random.below(most.min(MOST_SQUARES / one));
+    either_way(random, one, other)
+}
+
+// Sides with about as many squares as an area may have, a row more or less: accepted or not, and seldom one of them too long.
+pub fn sides_at_limit(random: &mut Random) -> (u32, u32) {
+    let most = random.of(&[512, 4096, 65535]);
+    let one = 256 + random.below(most - 255);
+    let other = MOST_SQUARES / one - 1 + random.below(4);
+    either_way(random, one, other)
 }
 
 // A coordinate for an origin: mostly within the range, often about 0, or at an end of the range, beyond it, or anything.
@@ -145,11 +167,13 @@ impl Lines {
         format!("ORIGIN {} {}", spelt(random, ox), spelt(random, oy)).into_bytes()
     }
 
+    // An AREA line, now and then one at the limit of squares. Where it is refused, no area is in force.
     fn area_line(&mut self) -> Vec<u8> {
         let random = &mut self.random;
-        let limit = random.of(&[10, 300, 65535]);
-        let (w, h) = (1 + random.below(limit) as u32, 1 + random.below(limit) as u32);
-        self.area = Some(Area { w, h, ox: 0, oy: 0 });
+        let most = random.of(&[10, 300, 65535]);
+        let (w, h) = if random.below(8) == 0 { sides_at_limit(random) } else { sides(random, most) };
+        let accepted = w.max(h) <= 65535 && w as u64 * h as u64 <= MOST_SQUARES;
+        self.area = accepted.then_some(Area { w, h, ox: 0, oy: 0 });
         format!("AREA {} {}", spelt(random, w), spelt(random, h)).into_bytes()
     }
 }

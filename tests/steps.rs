@@ -1,5 +1,5 @@
 // steps SEED: how far apart the squares of successive numbers are, through the C boundary, against document 02, order 5: every step of every area up to 60 by
-// 60, with two origins, and in large areas, up to the limit, the steps about the bend and others at random.
+// 60, with two origins, and in large areas, up to the limit of squares, the steps about the bend and others at random.
 #[allow(dead_code)] // only areas are needed of these
 mod expected;
 #[allow(dead_code)] // lookups and tables are asked of the library here
@@ -11,7 +11,7 @@ mod random;
 mod raw;
 
 use expected::Area;
-use random::Random;
+use random::{sides, Random};
 
 // The square of a number. SAFETY, here and below: the slice is passed with its own length.
 fn square(area: Area, number: u32) -> (i64, i64) {
@@ -88,15 +88,18 @@ fn main() {
         walked += w * h - 1;
     }
     println!("steps: all {walked} of every area up to 60 by 60 share a side, but for the one where there is one, whatever the origin");
-    for (w, h) in [(65535, 65535), (65535, 65534), (65534, 65535), (65535, 4), (3, 65534), (65533, 2), (2, 65535), (4097, 4096), (3, 4)] {
+    let square = [(4096, 4096), (4095, 4095), (4095, 4096), (4096, 4095), (4095, 4097), (4097, 4094), (3, 4)];
+    let long = [(65535, 256), (65535, 255), (65534, 256), (256, 65535), (255, 65534), (255, 65535), (65535, 4), (3, 65534), (65533, 2), (2, 65535)];
+    for (w, h) in square.into_iter().chain(long) {
         large(&mut random, Area::new(w, h));
     }
     for turn in 0..600 {
-        let most = random.of(&[1000, 5000, 65534]);
-        let (w, h) = (61 + random.below(most - 60) as u32, 61 + random.below(most - 60) as u32);
+        let most = random.of(&[1000, 5000, 65535]);
+        let (w, h) = sides(&mut random, most);
+        let (w, h) = (w.max(61), h.max(61));
         // Two of three are excepted areas.
-        let area = if turn % 3 == 0 { Area::new(w, h) } else { Area::new(w | 1, h & !1) };
+        let area = if turn % 3 == 0 { Area::new(w, h) } else { Area::new((w - 1) | 1, h & !1) };
         large(&mut random, area.at(-40_000, turn));
     }
-    println!("steps: about the bend of 609 larger areas, up to the limit, and 200 others of each, as document 02 has them");
+    println!("steps: about the bend of 617 larger areas, up to the limit of squares, and 200 others of each, as document 02 has them");
 }

@@ -1,6 +1,7 @@
-// tables SEED: fills and checks of whole tables through the C boundary, against the independent program: every area up to 70 by 70 and middling ones, with
-// sentinels around the table; every place wrong alone in small areas; and up to five wrong places at random. Where the last part of a cut is as long as the
-// first, the table by number repeats itself, moved or turned: many of the wrong places lie in such a part, in the one that it repeats, or alike in both.
+// tables SEED: fills and checks of whole tables through the C boundary, against the independent program: every area up to 70 by 70, middling ones and some at
+// the limit of squares, with sentinels around the table; every place wrong alone in small areas; and up to five wrong places at random. Where the last part of
+// a cut is as long as the first, the table by number repeats itself, moved or turned: many of the wrong places lie in such a part, in the one that it repeats,
+// or alike in both.
 #![allow(dead_code)] // the programs' common files have more than is needed here
 mod expected;
 mod independent;
@@ -115,9 +116,11 @@ impl Due {
     }
 }
 
-// Fills both kinds of an area's table, and checks so many with wrong places; in a small area also one for each place. Returns how many were checked.
+// Fills both kinds of an area's table, and checks so many with wrong places; in a small area also one for each place. Returns how many were checked. No fill
+// reports more than 33,554,431 blocks, one less than twice the most squares.
 fn area(random: &mut Random, w: u32, h: u32, checks: usize) -> usize {
     let blocks = independent::fill(w as i64, h as i64, w as usize * h as usize).expect("an area that is accepted")[0];
+    assert!(blocks <= 33_554_431, "{w} by {h} has {blocks} blocks");
     let (by_number, by_square) = (Due::of(w, h, false), Due::of(w, h, true));
     for kind in [&by_number, &by_square] {
         kind.fill(blocks);
@@ -144,9 +147,12 @@ fn main() {
     for (w, h) in [(64, 64), (128, 128), (33, 47), (96, 160), (160, 40), (400, 12), (12, 400), (255, 257), (256, 256), (300, 200)] {
         checks += area(&mut random, w, h, 500);
     }
+    for (w, h) in [(4096, 4096), (8192, 2048), (4095, 4097), (65535, 256), (256, 65535), (65535, 1), (1, 65535)] {
+        checks += area(&mut random, w, h, 4);
+    }
     for _ in 0..50 {
         let (w, h) = (71 + random.below(90) as u32, 71 + random.below(90) as u32);
         checks += area(&mut random, w, h, 200);
     }
-    println!("tables: both kinds of every area up to 70 by 70 and of 60 others filled, and {checks} checks, as the independent program has them");
+    println!("tables: both kinds of every area up to 70 by 70 and of 67 others filled, and {checks} checks, as the independent program has them");
 }

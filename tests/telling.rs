@@ -60,7 +60,7 @@ impl<'a> Reader<'a> {
     fn case(&mut self) -> bool {
         let kind = self.word();
         let (w, h) = self.pair();
-        assert!(independent::accepted(w, h), "{}: {w} by {h} is no area", self.path);
+        assert!(independent::accepted(w, h).is_ok(), "{}: {w} by {h} is no area", self.path);
         let (curve, counts): (Vec<(i64, i64)>, Vec<i64>) = independent::traversal(w, h).into_iter().map(|(s, count)| ((s.x, s.y), count)).unzip();
         match kind {
             "number-is" => {

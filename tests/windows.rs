@@ -1,6 +1,6 @@
 // windows SEED: the runs of a window through the C boundary against the independent program: every window of every area up to 9 by 9, with room exact, one
 // pair short, odd, ample and none, and with two origins; some windows of every area up to 12 by 12 with many origins; random and hostile windows of large
-// areas; and each run's ends and the numbers beside them, by lookups, where a window is too large to list.
+// areas, some at the limit of squares; and each run's ends and the numbers beside them, by lookups, where a window is too large to list.
 #[allow(dead_code)] // only areas are needed of these
 mod expected;
 #[allow(dead_code)] // the way down to a number is not needed here
@@ -13,7 +13,7 @@ mod raw;
 
 use expected::{Area, UNTOUCHED};
 use independent::{granted, runs_by_numbers, runs_by_squares, window_answer, Window};
-use random::{near, near_from, origin, Random};
+use random::{near, near_from, origin, sides, sides_at_limit, Random};
 
 // The corners of a window as the C function takes them.
 type Corners = [i32; 4];
@@ -101,12 +101,12 @@ fn with_origins() -> u64 {
     calls
 }
 
-// Origins beyond the range, and areas beyond theirs: 1, 12, 10, 2 in this order, whatever the corners are.
+// Origins beyond the range, and areas beyond theirs: 1, 13, 12, 10, 2 in this order, whatever the corners are.
 fn refused() -> u64 {
     let mut calls = 0;
     let ends = [i32::MIN, -1_000_001, -1, 0, 3, 1_000_001, i32::MAX];
     for (ox, oy) in ends.into_iter().flat_map(|ox| ends.map(|oy| (ox, oy))) {
-        for (w, h) in [(3, 4), (0, 4), (3, 65536)] {
+        for (w, h) in [(3, 4), (0, 4), (3, 65536), (4096, 4097), (24929, 673), (65281, 257), (65535, 65535), (65536, 257), (0, 65536)] {
             for v in [[0, 0, 0, 0], [ox, oy, ox, oy], [1, 0, 0, 9], [0, 0, 3, 0], [i32::MIN; 4], [i32::MAX; 4], [i32::MIN, i32::MIN, i32::MAX, i32::MAX]] {
                 let area = Area { w, h, ox, oy };
                 compare(area, v, 5, &runs_if_granted(area, v));
@@ -115,6 +115,20 @@ fn refused() -> u64 {
         }
     }
     calls
+}
+
+// Refusal 13 by hand: after 1, and before 12, 10, 2 and 11, with no run told of and nothing written. Of the largest area every window is answered.
+fn too_many_squares() {
+    for (w, h, refusal) in [(4096, 4097, 13), (65535, 257, 13), (65535, 65535, 13), (65536, 257, 1), (65536, 65536, 1), (0, 65536, 1)] {
+        for (ox, v) in [(0, [0, 0, 1, 1]), (0, [1, 0, 0, 9]), (0, [-1, 0, 0, 0]), (1_000_001, [0, 0, 0, 0]), (i32::MIN, [1, 0, 0, 0])] {
+            for places in [0, 5] {
+                let area = Area::new(w, h).at(ox, 0);
+                assert_eq!(ask(area, v, places), (refusal, 0, vec![UNTOUCHED; places]), "{area:?}, {v:?}, {places} places");
+            }
+        }
+    }
+    assert_eq!(ask(Area::new(4096, 4096), [0, 0, 4095, 4095], 2), (0, 1, vec![0, 16_777_215]));
+    assert_eq!(ask(Area::new(4096, 4096), [0, 0, 4095, 4095], 1), (11, 1, vec![UNTOUCHED]));
 }
 
 // A random span of a side: short, at an end, or whole.
@@ -126,13 +140,12 @@ fn span(random: &mut Random, from: i32, n: u32, most: u64) -> (i32, i32) {
     (first, first + length - 1)
 }
 
-// Random windows of large areas, thin ones and corners among them, small enough to list their numbers.
+// Random windows of large areas, thin ones and corners among them, small enough to list their numbers. Some of the areas have too many squares.
 fn large(random: &mut Random, rounds: u64) -> u64 {
     let mut calls = 0;
     for _ in 0..rounds {
-        let side = random.of(&[12u64, 5_000, 65_535, 65_535]);
-        let other = random.of(&[side, side, 40, 65_535]);
-        let (w, h) = (1 + random.below(side) as u32, 1 + random.below(other) as u32);
+        let most = random.of(&[12, 5_000, 65_535, 65_535]);
+        let (w, h) = if random.below(4) == 0 { sides_at_limit(random) } else { sides(random, most) };
         let area = Area { w, h, ox: random.below(2_000_001) as i32 - 1_000_000, oy: random.below(9) as i32 - 4 };
         let (wide, high) = random.of(&[(9, 9), (1, 300), (300, 1), (30, 4), (3, 30), (2, 2)]);
         let ((x0, x1), (y0, y1)) = (span(random, area.ox, w, wide), span(random, area.oy, h, high));
@@ -152,8 +165,13 @@ fn hostile(random: &mut Random, rounds: u64) -> u64 {
     let mut calls = 0;
     for _ in 0..rounds {
         let side = random.of(&[3, 12, 65_536]);
-        let area = Area { w: near(random, side), h: near(random, side), ox: origin(random), oy: origin(random) };
-        let (wide, high) = (area.w as u64, area.h as u64);
+        let (w, h) = match random.below(4) {
+            0 => sides_at_limit(random),
+            1 => sides(random, 65_535),
+            _ => (near(random, side), near(random, side)),
+        };
+        let area = Area { w, h, ox: origin(random), oy: origin(random) };
+        let (wide, high) = (w as u64, h as u64);
         let (x0, y0) = (near_from(random, area.ox, wide), near_from(random, area.oy, high));
         let (x1, y1) = (near_from(random, area.ox, wide), near_from(random, area.oy, high));
         let v = [x0, y0, x1, y1];
@@ -195,11 +213,12 @@ fn by_ends(area: Area, v: Corners) -> u64 {
 fn main() {
     let seed = std::env::args().nth(1).and_then(|s| s.parse().ok()).unwrap_or(1);
     let mut random = Random::from(seed);
+    too_many_squares();
     let small = small() + with_origins();
     let large = large(&mut random, 200_000);
     let hostile = hostile(&mut random, 200_000) + refused();
     let mut wide = 0;
-    for (w, h) in [(65_535, 65_535), (65_535, 3), (2, 65_535), (4_096, 4_096), (30_001, 29_999)] {
+    for (w, h) in [(4_096, 4_096), (65_535, 256), (256, 65_535), (65_535, 3), (2, 65_535), (4_095, 4_097)] {
         for v in [[0, 0, w - 1, h - 1], [0, 0, w / 2, h - 1], [w / 3, h / 3, w - 1, h - 1], [1.min(w - 1), 0, w - 1, 0], [w - 1, 0, w - 1, h - 1]] {
             for (ox, oy) in [(0, 0), (-33_000, 1_000_000)] {
                 wide += by_ends(Area::new(w as u32, h as u32).at(ox, oy), [ox + v[0], oy + v[1], ox + v[2], oy + v[3]]);

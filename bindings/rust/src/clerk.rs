@@ -43,6 +43,7 @@ pub enum Reply {
 /// assert_eq!(clerk.area(), Some(Area::new(3, 4).at(-5, 7)));
 /// assert_eq!(clerk.handle(b"AREA 0 4"), Err(Refusal::AreaLimit));
 /// assert_eq!(clerk.area(), None);
+/// assert_eq!(clerk.handle(b"AREA 4096 4097"), Err(Refusal::TooManySquares));
 /// ```
 #[derive(Clone, Copy, Debug, PartialEq, Eq, Hash, Default)]
 pub struct Clerk {
@@ -55,12 +56,13 @@ impl Clerk {
         Clerk { area: None }
     }
 
-    /// A clerk with this area in force, or with none where the area is not accepted or its origin is beyond the range.
+    /// A clerk with this area in force, or with none where the area is not accepted, as one of too many squares is not, or its origin is beyond the range.
     ///
     /// ```
     /// # use uvalinda::{Area, Clerk};
     /// assert_eq!(Clerk::under(Area::new(3, 4).at(-5, 7)).area(), Some(Area::new(3, 4).at(-5, 7)));
     /// assert_eq!(Clerk::under(Area::new(3, 0)).area(), None);
+    /// assert_eq!(Clerk::under(Area::new(4096, 4097)).area(), None);
     /// assert_eq!(Clerk::under(Area::new(3, 4).at(0, 1_000_001)).area(), None);
     /// ```
     pub fn under(area: Area) -> Clerk {

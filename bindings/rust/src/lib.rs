@@ -29,14 +29,16 @@ pub use clerk::{Clerk, Reply};
 pub use refusal::Refusal;
 pub use squares::Squares;
 
-/// An area, `w` squares wide and `h` high, on the site grid: its squares are those from (`ox`, `oy`), its origin, to (ox + w - 1, oy + h - 1). Any numbers can
-/// stand here: every call refuses an area that is not accepted, and every call that asks or answers squares an origin beyond its range. Fills and checks do
-/// not depend on the origin.
+/// An area, `w` squares wide and `h` high, on the site grid: its squares are those from (`ox`, `oy`), its origin, to (ox + w - 1, oy + h - 1). It has at
+/// most 16,777,216 squares, so that a number takes 24 bits at most. Any numbers can stand here: every call refuses an area that is not accepted, for a side and
+/// then for too many squares, and every call that asks or answers squares an origin beyond its range. Fills and checks do not depend on the origin.
 ///
 /// ```
-/// # use uvalinda::Area;
+/// # use uvalinda::{Area, Refusal, Square};
 /// assert_eq!(Area::new(3, 4), Area { w: 3, h: 4, ox: 0, oy: 0 });
 /// assert_eq!(Area::new(3, 4).at(-5, 7), Area { w: 3, h: 4, ox: -5, oy: 7 });
+/// assert_eq!(Area::new(4096, 4096).finish_square(), Ok(Square { x: 4095, y: 0 }));
+/// assert_eq!(Area::new(4096, 4097).finish_square(), Err(Refusal::TooManySquares));
 /// ```
 #[derive(Clone, Copy, Debug, PartialEq, Eq, Hash)]
 pub struct Area {
@@ -66,16 +68,16 @@ pub struct Cell {
     pub x: i32,
     /// From oy to oy + h - 1.
     pub y: i32,
-    /// How many blocks of the division hold the square.
+    /// How many blocks of the division hold the square, at most 41.
     pub blocks: u32,
 }
 
 /// The number of a square.
 #[derive(Clone, Copy, Debug, PartialEq, Eq, Hash)]
 pub struct Number {
-    /// From 0 to w·h - 1.
+    /// From 0 to w·h - 1, at most 16,777,215.
     pub number: u32,
-    /// How many blocks of the division hold the square.
+    /// How many blocks of the division hold the square, at most 41.
     pub blocks: u32,
 }
 
@@ -119,13 +121,14 @@ impl Area {
         Area { ox, oy, ..self }
     }
 
-    /// The square of a number. Refused: [`Refusal::AreaLimit`], [`Refusal::OriginLimit`], then [`Refusal::NumberOutside`].
+    /// The square of a number. Refused: [`Refusal::AreaLimit`], [`Refusal::TooManySquares`], [`Refusal::OriginLimit`], then [`Refusal::NumberOutside`].
     ///
     /// ```
     /// # use uvalinda::{Area, Cell, Refusal};
     /// assert_eq!(Area::new(7, 4).number_to_square(16), Ok(Cell { x: 4, y: 0, blocks: 3 }));
     /// assert_eq!(Area::new(7, 4).at(-9, 2).number_to_square(16), Ok(Cell { x: -5, y: 2, blocks: 3 }));
     /// assert_eq!(Area::new(0, 5).number_to_square(0), Err(Refusal::AreaLimit));
+    /// assert_eq!(Area::new(4096, 4097).number_to_square(0), Err(Refusal::TooManySquares));
     /// assert_eq!(Area::new(7, 4).at(0, 1_000_001).number_to_square(16), Err(Refusal::OriginLimit));
     /// ```
     pub fn number_to_square(self, number: u32) -> Result<Cell, Refusal> {
@@ -135,7 +138,7 @@ impl Area {
         refusal::unless_refused(returned, found, |[x, y, blocks]| Cell { x, y, blocks: blocks as u32 })
     }
 
-    /// The number of a square. Refused: [`Refusal::AreaLimit`], [`Refusal::OriginLimit`], then [`Refusal::SquareOutside`].
+    /// The number of a square. Refused: [`Refusal::AreaLimit`], [`Refusal::TooManySquares`], [`Refusal::OriginLimit`], then [`Refusal::SquareOutside`].
     ///
     /// ```
     /// # use uvalinda::{Area, Number, Refusal};
@@ -151,8 +154,8 @@ impl Area {
     }
 
     /// The finish square, where a crew stands at the end: the square of number w·h - 1. From the origin it lies (w - 1, 0) off, except for width 1 with height
-    /// above 1, where that is (0, h - 1), and for odd width of 3 or more with height 2, where it is (w - 2, 0). Refused: [`Refusal::AreaLimit`], then
-    /// [`Refusal::OriginLimit`].
+    /// above 1, where that is (0, h - 1), and for odd width of 3 or more with height 2, where it is (w - 2, 0). Refused: [`Refusal::AreaLimit`],
+    /// [`Refusal::TooManySquares`], then [`Refusal::OriginLimit`].
     ///
     /// ```
     /// # use uvalinda::{Area, Square};
@@ -168,8 +171,9 @@ impl Area {
         refusal::unless_refused(returned, found, |[x, y]| Square { x, y })
     }
 
-    /// Place i gets y·w + x of square number i, whose x and y count from the origin here. Says how many blocks the division has. Refused, with the table as it
-    /// was: [`Refusal::AreaLimit`], then [`Refusal::TableLength`] for a table that has not exactly w·h places.
+    /// Place i gets y·w + x of square number i, whose x and y count from the area's own corner here. Says how many blocks the division has, at most 33,554,431.
+    /// Refused, with the table as it was: [`Refusal::AreaLimit`], [`Refusal::TooManySquares`], then [`Refusal::TableLength`] for a table that has not exactly
+    /// w·h places.
     ///
     /// ```
     /// # use uvalinda::{Area, Refusal};
@@ -186,8 +190,9 @@ impl Area {
         refusal::unless_refused(returned, blocks, |[blocks]| blocks)
     }
 
-    /// Place y·w + x gets the square's number; x and y count from the origin here. Says how many blocks the division has. Refused, with the table as it was:
-    /// [`Refusal::AreaLimit`], then [`Refusal::TableLength`] for a table that has not exactly w·h places.
+    /// Place y·w + x gets the square's number; x and y count from the area's own corner here. Says how many blocks the division has, at most 33,554,431.
+    /// Refused, with the table as it was: [`Refusal::AreaLimit`], [`Refusal::TooManySquares`], then [`Refusal::TableLength`] for a table that has not exactly
+    /// w·h places.
     ///
     /// ```
     /// # use uvalinda::Area;
@@ -202,7 +207,7 @@ impl Area {
         refusal::unless_refused(returned, blocks, |[blocks]| blocks)
     }
 
-    /// Whether a table holds what [`Area::fill_by_number`] writes. Refused: [`Refusal::AreaLimit`], then [`Refusal::TableLength`].
+    /// Whether a table holds what [`Area::fill_by_number`] writes. Refused: [`Refusal::AreaLimit`], [`Refusal::TooManySquares`], then [`Refusal::TableLength`].
     ///
     /// ```
     /// # use uvalinda::{Area, Check};
@@ -216,7 +221,7 @@ impl Area {
         refusal::unless_refused(returned, judged, Check::found)
     }
 
-    /// Whether a table holds what [`Area::fill_by_square`] writes. Refused: [`Refusal::AreaLimit`], then [`Refusal::TableLength`].
+    /// Whether a table holds what [`Area::fill_by_square`] writes. Refused: [`Refusal::AreaLimit`], [`Refusal::TooManySquares`], then [`Refusal::TableLength`].
     ///
     /// ```
     /// # use uvalinda::{Area, Check, Refusal};
@@ -242,7 +247,7 @@ impl Area {
     }
 
     /// How many runs of numbers a window has: how many pairs of room [`Area::runs_for_window`] takes. Refused: [`Refusal::AreaLimit`],
-    /// [`Refusal::OriginLimit`], [`Refusal::CornersCrossed`], then [`Refusal::SquareOutside`] for a corner outside the area.
+    /// [`Refusal::TooManySquares`], [`Refusal::OriginLimit`], [`Refusal::CornersCrossed`], then [`Refusal::SquareOutside`] for a corner outside the area.
     pub fn count_runs(self, window: Window) -> Result<u32, Refusal> {
         match self.ask_window(window, &mut []) {
             // A window has a run at least, so that no room is never enough: the refusal tells how many there are, a count of 32 bits.
@@ -271,7 +276,7 @@ impl Area {
         Ok(&room[..count as usize])
     }
 
-    /// The area's squares in the order of their numbers. Refused: [`Refusal::AreaLimit`], then [`Refusal::OriginLimit`].
+    /// The area's squares in the order of their numbers. Refused: [`Refusal::AreaLimit`], [`Refusal::TooManySquares`], then [`Refusal::OriginLimit`].
     ///
     /// ```
     /// # use uvalinda::{Area, Square};

@@ -57,6 +57,7 @@ refusals! {
     11 NoRoom { count: u64, "How many runs there are." }: "There are more runs than whole pairs of room.",
         "there are {count} runs, more than there is room for";
     12 OriginLimit: "ox or oy is beyond 1,000,000 either way.", "the origin is beyond 1,000,000 either way";
+    13 TooManySquares: "The area has more than 16,777,216 squares.", "the area has more than 16,777,216 squares";
 }
 
 impl core::error::Error for Refusal {}

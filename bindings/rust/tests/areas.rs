@@ -57,7 +57,8 @@ fn the_iterator_goes_both_ways() {
 
 #[test]
 fn the_finish_square_is_the_last() {
-    for area in areas().chain([Area::new(65535, 2), Area::new(65534, 2), Area::new(1, 65535), Area::new(65535, 65535)]) {
+    let large = [Area::new(65535, 2), Area::new(65534, 2), Area::new(1, 65535), Area::new(65535, 256), Area::new(256, 65535), Area::new(4096, 4096)];
+    for area in areas().chain(large) {
         let last = area.squares().unwrap().last().unwrap();
         assert_eq!(area.finish_square(), Ok(last), "{area:?}");
         let corner = Square { x: area.ox + area.w as i32 - 1, y: area.oy };
@@ -100,6 +101,7 @@ fn a_refused_window_leaves_the_room() {
         assert_eq!(area.runs_for_window(window, &mut room), Err(refusal), "{window:?}");
         assert_eq!(area.count_runs(window), Err(refusal), "{window:?}");
         assert_eq!(area.at(0, -1_000_001).runs_for_window(window, &mut room), Err(Refusal::OriginLimit), "{window:?}");
+        assert_eq!(Area::new(4096, 4097).at(0, -1_000_001).runs_for_window(window, &mut room), Err(Refusal::TooManySquares), "{window:?}");
         assert_eq!(Area::new(0, 4).at(0, -1_000_001).runs_for_window(window, &mut room), Err(Refusal::AreaLimit), "{window:?}");
         assert_eq!(room, [[7; 2]; 4], "{window:?}");
     }
@@ -121,17 +123,56 @@ fn refusals_have_their_numbers() {
         area.count_runs(Window { x0: 1, y0: 0, x1: 0, y1: 9 }).unwrap_err(),
         area.runs_for_window(Window { x0: 0, y0: 0, x1: 1, y1: 1 }, &mut [[7; 2]]).unwrap_err(),
         area.at(1_000_001, 0).squares().map(|_| ()).unwrap_err(),
+        Area::new(4096, 4097).squares().map(|_| ()).unwrap_err(),
     ];
-    assert_eq!(refusals.map(u32::from), [1, 2, 3, 4, 5, 6, 7, 8, 10, 11, 12]);
+    assert_eq!(refusals.map(u32::from), [1, 2, 3, 4, 5, 6, 7, 8, 10, 11, 12, 13]);
     assert_eq!(u32::from(Refusal::TooDeep), 9);
+}
+
+// What every call says of an area that it refuses; the table and the room stay as they were.
+fn refused_by_all(area: Area, refusal: Refusal) {
+    let (mut table, mut room) = ([7; 3], [[7; 2]]);
+    let window = Window { x0: area.ox, y0: area.oy, x1: area.ox, y1: area.oy };
+    assert_eq!(area.number_to_square(u32::MAX), Err(refusal), "{area:?}");
+    assert_eq!(area.square_to_number(i32::MIN, 0), Err(refusal), "{area:?}");
+    assert_eq!(area.finish_square(), Err(refusal), "{area:?}");
+    assert_eq!(area.squares().map(|_| ()), Err(refusal), "{area:?}");
+    assert_eq!((area.fill_by_number(&mut table), area.fill_by_square(&mut table)), (Err(refusal), Err(refusal)), "{area:?}");
+    assert_eq!((area.check_by_number(&table), area.check_by_square(&table)), (Err(refusal), Err(refusal)), "{area:?}");
+    assert_eq!(area.count_runs(window), Err(refusal), "{area:?}");
+    assert_eq!(area.runs_for_window(window, &mut room), Err(refusal), "{area:?}");
+    assert_eq!((table, room), ([7; 3], [[7; 2]]), "{area:?}");
+    assert_eq!(Clerk::under(area), Clerk::new(), "{area:?}");
+    let mut clerk = Clerk::under(Area::new(3, 4));
+    assert_eq!(clerk.handle(format!("AREA {} {}", area.w, area.h).as_bytes()), Err(refusal), "{area:?}");
+    assert_eq!(clerk.area(), None, "{area:?}");
+}
+
+#[test]
+fn an_area_has_at_most_so_many_squares() {
+    for (w, h) in [(4096, 4097), (4097, 4096), (65535, 257), (24929, 673), (65535, 65535)] {
+        refused_by_all(Area::new(w, h), Refusal::TooManySquares);
+        refused_by_all(Area::new(w, h).at(1_000_001, 0), Refusal::TooManySquares);
+    }
+    for (w, h) in [(65536, 257), (65536, 256), (0, 65536), (65536, 65536)] {
+        refused_by_all(Area::new(w, h), Refusal::AreaLimit);
+    }
+    for (w, h) in [(4096, 4096), (8192, 2048), (65535, 256), (256, 65535), (24929, 672), (65535, 1), (1, 65535)] {
+        let area = Area::new(w, h).at(-9, 1_000_000);
+        assert_eq!(area.squares().unwrap().len(), w as usize * h as usize, "{area:?}");
+        assert_eq!(area.count_runs(Window { x0: -9, y0: 1_000_000, x1: w as i32 - 10, y1: h as i32 + 999_999 }), Ok(1), "{area:?}");
+        assert_eq!(area.number_to_square(w * h), Err(Refusal::NumberOutside), "{area:?}");
+        assert_eq!(area.fill_by_number(&mut [7; 3]), Err(Refusal::TableLength), "{area:?}");
+        assert_eq!(Clerk::under(area).area(), Some(area));
+    }
 }
 
 #[test]
 fn an_area_line_is_told_whole() {
     let mut clerk = Clerk::new();
-    let reply = clerk.handle(b"AREA 65535 65535");
-    let area = Area::new(65535, 65535);
-    assert_eq!(reply, Ok(Reply::Area { area, squares: 4294836225, finish: Square { x: 65534, y: 0 } }));
+    let reply = clerk.handle(b"AREA 65535 256");
+    let area = Area::new(65535, 256);
+    assert_eq!(reply, Ok(Reply::Area { area, squares: 16776960, finish: Square { x: 65534, y: 0 } }));
     assert_eq!(clerk.area(), Some(area));
     assert_eq!(clerk.handle(b"S 65534 0"), area.square_to_number(65534, 0).map(Reply::Number));
     let area = Area::new(5, 2);

@@ -15,12 +15,17 @@ fn a_refusal_tells_the_first_value_or_nothing() {
     assert_eq!(unless_refused(11, [u64::MAX], |_| ()), Err(Refusal::NoRoom { count: u64::MAX }));
     assert_eq!(unless_refused(11, [7i64, -8], |_| ()), Err(Refusal::NoRoom { count: 7 }));
     assert_eq!(unless_refused(12, [0i32, 0], |_| ()), Err(Refusal::OriginLimit));
+    assert_eq!(unless_refused(13, [0u64], |_| ()), Err(Refusal::TooManySquares));
 }
 
 #[test]
 fn a_refusal_has_its_number_and_says_its_value() {
-    let refusals = [Refusal::NoArea, Refusal::NoRoom { count: 7 }, Refusal::OriginLimit];
-    assert_eq!(refusals.map(u32::from), [7, 11, 12]);
-    let said = ["no area is in force", "there are 7 runs, more than there is room for", "the origin is beyond 1,000,000 either way"];
-    assert_eq!(refusals.map(|refusal| refusal.to_string()), said);
+    for (refusal, number, said) in [
+        (Refusal::NoArea, 7, "no area is in force"),
+        (Refusal::NoRoom { count: 7 }, 11, "there are 7 runs, more than there is room for"),
+        (Refusal::OriginLimit, 12, "the origin is beyond 1,000,000 either way"),
+        (Refusal::TooManySquares, 13, "the area has more than 16,777,216 squares"),
+    ] {
+        assert_eq!((u32::from(refusal), refusal.to_string().as_str()), (number, said));
+    }
 }
