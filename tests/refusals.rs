@@ -1,5 +1,5 @@
 // refusals: the refusals have the same names and numbers everywhere. The list is the definition's, `refusal-number` in crates/terms/specs/Terms.antt; the
-// C header, the Rust bindings and the page of rules are held to it, none more and none less.
+// C header, the bindings for Rust, Python and SQL and the page of rules are held to it, none more and none less.
 
 type Refusals = Vec<(String, String)>;
 
@@ -34,6 +34,19 @@ fn listed(line: &str) -> Option<(String, String)> {
     owned(name.split(" {").next()?, number)
 }
 
+// A line of Python's list: `(1, "Name", ..`.
+fn listed_in_python(line: &str) -> Option<(String, String)> {
+    let (number, rest) = line.strip_prefix('(')?.split_once(", \"")?;
+    owned(rest.split('"').next()?, number)
+}
+
+// A line of the SQL extension's list: `{UVALINDA_NAME, "Name", ..`, with the number that the header gives the constant.
+fn listed_in_sql(line: &str, header: &Refusals) -> Option<(String, String)> {
+    let (constant, rest) = line.strip_prefix("{UVALINDA_")?.split_once(", \"")?;
+    let (_, number) = header.iter().find(|(name, _)| name == constant)?;
+    owned(rest.split('"').next()?, number)
+}
+
 fn main() {
     let defined = found("crates/terms/specs/Terms.antt", |line| {
         let (name, number) = line.strip_prefix("refusal-number ")?.split_once(" = ")?;
@@ -46,7 +59,9 @@ fn main() {
         let refusal = !name.ends_with("_PLACES") && !name.starts_with("REPLY_") && name != "ANSWERED" && name != "SHORT_RESULT";
         owned(name, number).filter(|_| refusal)
     });
-    let bindings = found("bindings/rust/src/refusal.rs", listed);
+    let rust = found("bindings/rust/src/refusal.rs", listed);
+    let python = found("bindings/python/uvalinda/refusal.py", listed_in_python);
+    let sql = found("bindings/sqlite/uvalinda.c", |line| listed_in_sql(line, &header));
     let rules = found("docs/RULES.md", |line| {
         let mut cells = line.strip_prefix("| ")?.split(" | ");
         let (number, name) = (cells.next()?, cells.next()?);
@@ -54,7 +69,9 @@ fn main() {
     });
     let c: Refusals = defined.iter().map(|(name, number)| (in_c(name), number.clone())).collect();
     assert_eq!(c, header, "the C header has other refusals than the definition");
-    assert_eq!(defined, bindings, "the Rust bindings have other refusals than the definition");
+    assert_eq!(defined, rust, "the Rust bindings have other refusals than the definition");
+    assert_eq!(defined, python, "the Python bindings have other refusals than the definition");
+    assert_eq!(defined, sql, "the SQL extension has other refusals than the definition");
     assert_eq!(defined, rules, "docs/RULES.md has other refusals than the definition");
     println!("refusals: {} names and numbers, the same in definition, header, bindings and rules", defined.len());
 }

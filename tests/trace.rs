@@ -60,6 +60,8 @@ fn main() {
     for folder in ["crates", "tests"] {
         files_under(Path::new(folder), &mut sources);
     }
+    // Other files name things too, as the test vectors do, and declare none.
+    sources.retain(|path| matches!(path.extension().and_then(|e| e.to_str()), Some("rt" | "rs" | "antt" | "edit")));
     let page = fs::read_to_string("docs/TRACE.md").expect("the page can be read");
     let (mut count, mut missing) = (0, 0);
     let mut miss = |what: String| {

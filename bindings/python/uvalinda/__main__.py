@@ -1,0 +1,87 @@
+"""python3 -m uvalinda W H [OX OY] <IN.csv >OUT.csv: adds to each row of a table the number of its square.
+
+The table's first row names its columns. Those named x and y hold the square, and the columns number and refused are added: the number, or the refusal's. Every
+field is read by the library's reader of order lines, as W, H, OX and OY are: 3E4 and 07 are not numbers.
+"""
+
+import csv
+import os
+import sys
+
+from .area import Area
+from .clerk import field_number
+from .refusal import Refusal
+
+
+class Unusable(Exception):
+    """The arguments or the table cannot be worked with."""
+
+
+# The bytes of a field as they stand in the input.
+def _bytes(field):
+    return field.encode("utf-8", "surrogateescape")
+
+
+def _area(arguments):
+    if len(arguments) not in (2, 4):
+        raise Unusable("usage: python3 -m uvalinda W H [OX OY] <IN.csv >OUT.csv")
+    try:
+        w, h, *origin = [field_number(_bytes(argument), i > 1) for i, argument in enumerate(arguments)]
+        area = Area(w, h, origin or (0, 0))
+        area.finish_square()
+    except Refusal as refused:
+        raise Unusable(f"{' '.join(arguments)}: refused {refused.number}: {refused}") from None
+    return area
+
+
+# The number of the square in a row's two fields, and the refusal's number: one of them is empty.
+def _looked_up(area, x, y):
+    try:
+        return area.square_to_number(field_number(_bytes(x), True), field_number(_bytes(y), True)).number, ""
+    except Refusal as refused:
+        return "", refused.number
+
+
+def _places(names):
+    if names.count("x") != 1 or names.count("y") != 1 or "number" in names or "refused" in names:
+        raise Unusable("the first row has to name one column x and one y, and none number or refused")
+    return names.index("x"), names.index("y")
+
+
+def extended(area, rows):
+    """The rows of a table with the two columns that are added. Lines that are empty are left out."""
+    rows = filter(None, rows)
+    names = next(rows, [])
+    x, y = _places(names)
+    yield [*names, "number", "refused"]
+    for count, row in enumerate(rows, 2):
+        if len(row) != len(names):
+            raise Unusable(f"row {count} has {len(row)} fields and the first row {len(names)}")
+        yield [*row, *_looked_up(area, row[x], row[y])]
+
+
+def main(arguments):
+    """Reads standard input and writes standard output. What cannot be worked with is told on standard error, and the status is then 1."""
+    # A mark of the byte order, as spreadsheets write it, belongs to no column. All other bytes come out as they came in.
+    sys.stdin.reconfigure(encoding="utf-8-sig", errors="surrogateescape", newline="")
+    sys.stdout.reconfigure(encoding="utf-8", errors="surrogateescape")
+    csv.field_size_limit(sys.maxsize)
+    try:
+        csv.writer(sys.stdout, lineterminator="\n").writerows(extended(_area(arguments), csv.reader(sys.stdin, strict=True)))
+        sys.stdout.flush()
+    except OSError as problem:
+        # What could not be written is not tried once more at the end.
+        os.dup2(os.open(os.devnull, os.O_WRONLY), sys.stdout.fileno())
+        return _told(problem)
+    except (Unusable, csv.Error) as problem:
+        return _told(problem)
+    return 0
+
+
+def _told(problem):
+    print(f"uvalinda: {problem}", file=sys.stderr)
+    return 1
+
+
+if __name__ == "__main__":
+    sys.exit(main(sys.argv[1:]))

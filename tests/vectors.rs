@@ -1,0 +1,312 @@
+// vectors: the test vectors that C, Rust, Python and SQL are all held to, by the independent program. tests/vectors.txt is what this prints; its first lines
+// say how a vector is read.
+#[allow(dead_code)] // the way down to a number and steps are not needed here
+mod independent;
+
+use independent::{Answer, Area, Reply, Window};
+
+const READ_SO: &str = "\
+# Test vectors: what is asked, and behind the = what is due. Made by tests/vectors.rs from the independent program, and not to be altered by hand.
+# A vector is words with a space between. In a word \\_ is a space, \\xHH the byte HH in hexadecimal, and \\e alone a word of no bytes.
+#   number_to_square w h ox oy number = x y blocks
+#   square_to_number w h ox oy x y = number blocks
+#   finish_square w h ox oy = x y
+#   runs_for_window w h ox oy x0 y0 x1 y1 = first last first last ..
+#   room places w h ox oy x0 y0 x1 y1 = the same with a slice of so many places; at refusal 11 also how many runs there are
+#   fill_by_number w h places = blocks and the table; fill_by_square likewise
+#   check_by_number w h table = right, or wrong and the place and the value due; check_by_square likewise
+#   handle_line w h ox oy line = w h ox oy of the area in force after the line, and the reply; 0 0 0 0 is none
+# Where it is refused, the word refused and the number are due. `text` before a call: its arguments are given as text, and each is read as a field of a line;
+# one that is not a number is refused with 5 before anything else. `wide` before a call: an argument is an integer that a C call cannot be given, and is
+# refused as one that is too far off.";
+
+const SMALL: [(i64, i64); 12] = [(1, 1), (1, 5), (5, 1), (2, 2), (3, 2), (4, 2), (3, 3), (4, 3), (5, 2), (3, 4), (7, 4), (40, 33)];
+const LARGE: [(i64, i64); 5] = [(4096, 4096), (8192, 2048), (65535, 256), (65535, 1), (1, 65535)];
+const REFUSED: [(i64, i64); 9] =
+    [(0, 0), (0, 5), (5, 0), (65536, 1), (1, 4294967295), (4096, 4097), (4097, 4096), (65535, 257), (65535, 65535)];
+const ORIGINS: [(i64, i64); 3] = [(-5, 7), (1_000_000, -1_000_000), (-1_000_000, 1_000_000)];
+const BEYOND: [(i64, i64); 6] = [(1_000_001, 0), (0, -1_000_001), (-1_000_001, 1_000_001), (i32::MIN as i64, 0), (0, i32::MAX as i64), (65536, 1 << 30)];
+
+// Fields that are numbers nowhere, and those whose answer goes by where they stand.
+const HOSTILE: [&[u8]; 36] = [
+    b"", b" ", b"3E4", b"3e0", b"1E1", b"+7", b"07", b"00", b"7.0", b"7.", b".7", b"0x7", b"7 ", b" 7", b"7\t", b"7\r", b"7\n", b"7\0", b"\0", b"\x007",
+    b"1\x002", b"1 2", b"1,000", b"1_000", b"NaN", b"Inf", b"TRUE", b"'7'", b"\"7\"", b"\\", b"\xff", b"\xef\xbc\x97", b"\xe2\x88\x927", b"--7", b"- 7",
+    b"1111111111111111111111111111111111111111111111111111111111111111111111",
+];
+const BY_PLACE: [&[u8]; 24] = [
+    b"0", b"1", b"2", b"7", b"30", b"0000000001", b"0000000030", b"000000001", b"00000000001", b"0000000000", b"2147483647", b"2147483648", b"4294967295",
+    b"4294967296", b"9999999999", b"99999999999", b"-1", b"-7", b"-0", b"-0000000001", b"-000000001", b"-0000000000", b"-2147483647", b"-2147483648",
+];
+
+// Bytes as one word.
+fn word(bytes: &[u8]) -> String {
+    let escaped = |b: &u8| match b {
+        b' ' => "\\_".to_string(),
+        b'\\' | 0..=32 | 127..=255 => format!("\\x{b:02x}"),
+        _ => char::from(*b).to_string(),
+    };
+    if bytes.is_empty() { "\\e".to_string() } else { bytes.iter().map(escaped).collect() }
+}
+
+fn words(numbers: impl IntoIterator<Item = i64>) -> String {
+    numbers.into_iter().map(|n| n.to_string()).collect::<Vec<_>>().join(" ")
+}
+
+fn due(answer: Answer) -> String {
+    answer.map_or_else(|refusal| format!("refused {refusal}"), words)
+}
+
+// What is due of a call by its name, with these arguments.
+fn called(call: &str, n: &[i64]) -> Answer {
+    let area = Area { w: n[0], h: n[1], ox: n[2], oy: n[3] };
+    match call {
+        // A negative number is no more a number of the area than one beyond its last.
+        "number_to_square" => independent::number_to_square(area, if n[4] < 0 { i64::MAX } else { n[4] }),
+        "square_to_number" => independent::square_to_number(area, n[4], n[5]),
+        "finish_square" => independent::finish_square(area),
+        _ => {
+            let (refusal, _, runs) = window(area, &n[4..], usize::MAX);
+            if refusal == 0 { Ok(runs) } else { Err(refusal) }
+        }
+    }
+}
+
+// What is due of a window: the refusal's number, how many runs are told of, and the runs one behind the other.
+fn window(area: Area, corners: &[i64], places: usize) -> (i64, i64, Vec<i64>) {
+    let window = Window { x0: corners[0], y0: corners[1], x1: corners[2], y1: corners[3] };
+    let (refusal, count, runs) = independent::window_answer(area, window, places, || independent::runs_by_numbers(area, window));
+    (refusal, count, runs.into_iter().flat_map(|(first, last)| [first, last]).collect())
+}
+
+fn print_call(call: &str, n: &[i64]) {
+    println!("{call} {} = {}", words(n.iter().copied()), due(called(call, n)));
+}
+
+// A call with an integer that a C call cannot be given.
+fn print_wide(call: &str, n: &[i64]) {
+    print!("wide ");
+    print_call(call, n);
+}
+
+// The value of a field: with no area in force a line of numbers is refused with 7, and every other with something else.
+fn field(text: &[u8], minus: bool) -> Option<i64> {
+    let line = if minus { [b"S ", text, b" 0"].concat() } else { [b"N ", text].concat() };
+    let number = matches!(independent::answered(&line, None).0, Reply::Refused(7));
+    number.then(|| std::str::from_utf8(text).expect("digits").parse().expect("a number"))
+}
+
+// Which arguments of a call may carry a minus.
+fn signs(call: &str) -> Vec<bool> {
+    let behind: &[bool] = match call {
+        "number_to_square" => &[false],
+        "square_to_number" => &[true; 2],
+        _ => &[true; 4],
+    };
+    [&[false, false, true, true], behind].concat()
+}
+
+fn print_text(call: &str, fields: &[Vec<u8>]) {
+    let read: Option<Vec<i64>> = fields.iter().zip(signs(call)).map(|(text, minus)| field(text, minus)).collect();
+    let shown: Vec<String> = fields.iter().map(|text| word(text)).collect();
+    println!("text {call} {} = {}", shown.join(" "), due(read.ok_or(5).and_then(|n| called(call, &n))));
+}
+
+// A call in text, with each of some fields in one place.
+fn print_texts(call: &str, n: &[i64], place: usize, fields: &[&[u8]]) {
+    for text in fields {
+        let mut with: Vec<Vec<u8>> = n.iter().map(|n| n.to_string().into_bytes()).collect();
+        with[place] = text.to_vec();
+        print_text(call, &with);
+    }
+}
+
+// A number padded to ten digits, as a label has it.
+fn padded(n: &i64) -> Vec<u8> {
+    format!("{}{:010}", if *n < 0 { "-" } else { "" }, n.abs()).into_bytes()
+}
+
+// Numbers and squares about the ends of an area, within and without.
+fn lookups((w, h): (i64, i64), (ox, oy): (i64, i64)) {
+    let area = |rest: &[i64]| [&[w, h, ox, oy], rest].concat();
+    let last = (w * h - 1).clamp(0, u32::MAX as i64 - 1);
+    let mut numbers = vec![0, 1, last / 3, last / 2, last - 1, last, last + 1, u32::MAX as i64];
+    numbers.retain(|n| *n >= 0);
+    numbers.dedup();
+    for number in numbers {
+        print_call("number_to_square", &area(&[number]));
+    }
+    let far = i32::MAX as i64;
+    for (x, y) in [(0, 0), (w - 1, 0), (0, h - 1), (w / 2, h / 3), (w - 1, h - 1), (-1, 0), (0, -1), (w, 0), (0, h), (far, far), (-far - 1, 0)] {
+        let onto = |c: i64, o: i64| (c + o).clamp(-far - 1, far);
+        print_call("square_to_number", &area(&[onto(x, ox), onto(y, oy)]));
+    }
+    print_call("finish_square", &area(&[]));
+}
+
+// Windows within an area, of one square, across its edge, and crossed.
+fn windows((w, h): (i64, i64), (ox, oy): (i64, i64)) {
+    let (right, top) = (w - 1, h - 1);
+    for [x0, y0, x1, y1] in [
+        [0, 0, right.min(30), top.min(20)],
+        [w / 3, h / 4, w / 3 + (w / 3).min(17), h / 4 + (h / 3).min(9)],
+        [right, top, right, top],
+        [w / 2, 0, w / 2, top.min(50)],
+        [-1, 0, 0, 0],
+        [0, 0, 0, h],
+        [1, 0, 0, 0],
+        [0, h, 0, 0],
+        [w + 1, 0, w, 0],
+    ] {
+        let corners = [x0 + ox, y0 + oy, x1 + ox, y1 + oy];
+        if corners.iter().all(|c| i32::try_from(*c).is_ok()) {
+            print_call("runs_for_window", &[&[w, h, ox, oy], &corners[..]].concat());
+        }
+    }
+}
+
+// A window of three runs, with a slice of every length up to some places more than they take.
+fn rooms() {
+    let (area, corners) = (Area { w: 7, h: 4, ox: -5, oy: 7 }, [-4, 7, -1, 9]);
+    for places in 0..=9 {
+        let (refusal, count, runs) = window(area, &corners, places);
+        let due = if refusal == 0 { words(runs) } else { format!("refused {refusal} {count}") };
+        println!("room {places} {} {} = {due}", words([area.w, area.h, area.ox, area.oy]), words(corners));
+    }
+}
+
+fn tables() {
+    for (kind, by_square) in [("number", false), ("square", true)] {
+        for (w, h) in SMALL.into_iter().filter(|(w, h)| w * h < 100) {
+            let right = independent::table_due(w, h, by_square);
+            for places in [right.len(), right.len() - 1, right.len() + 1] {
+                let filled = independent::fill(w, h, places).map(|blocks| [blocks, right.iter().map(|n| *n as i64).collect()].concat());
+                println!("fill_by_{kind} {w} {h} {places} = {}", due(filled));
+            }
+            let wrong = |at: usize, value: u32| right.iter().enumerate().map(|(i, n)| if i == at { value } else { *n }).collect();
+            let last = right.len() - 1;
+            let tables: [Vec<u32>; 5] = [right.clone(), wrong(0, 1), wrong(last, u32::MAX), wrong(last / 2, right.len() as u32), right[1..].to_vec()];
+            for table in tables {
+                print_check(kind, w, h, by_square, &table);
+            }
+        }
+        for (w, h) in REFUSED {
+            println!("fill_by_{kind} {w} {h} 3 = {}", due(independent::fill(w, h, 3)));
+            print_check(kind, w, h, by_square, &[0, 1, 2]);
+        }
+    }
+}
+
+fn print_check(kind: &str, w: i64, h: i64, by_square: bool, table: &[u32]) {
+    let due = match independent::check(w, h, by_square, table) {
+        Ok(v) if v[0] == 0 => "right".to_string(),
+        Ok(v) => format!("wrong {} {}", v[1], v[2]),
+        Err(refusal) => format!("refused {refusal}"),
+    };
+    println!("check_by_{kind} {w} {h}{} = {due}", table.iter().map(|n| format!(" {n}")).collect::<String>());
+}
+
+fn print_line(area: Option<Area>, line: &[u8]) {
+    let four = |area: Option<Area>| area.map_or([0; 4], |a| [a.w, a.h, a.ox, a.oy]);
+    let (reply, after) = independent::answered(line, area);
+    let told = match reply {
+        Reply::Area { squares, x, y, .. } => format!("area {squares} {x} {y}"),
+        Reply::Origin { ox, oy } => format!("origin {ox} {oy}"),
+        Reply::Cell { x, y, blocks } => format!("cell {x} {y} {blocks}"),
+        Reply::Number { number, blocks } => format!("number {number} {blocks}"),
+        Reply::Refused(refusal) => format!("refused {refusal}"),
+    };
+    println!("handle_line {} {} = {} {told}", words(four(area)), word(line), words(four(after)));
+}
+
+// Lines of every shape and nearly right ones, under no area, an area, and one with an origin; and each field in each shape.
+fn lines() {
+    let whole: [&[u8]; 33] = [
+        b"", b" ", b"N", b"N ", b"N 8", b" N 8", b"N  8", b"N 8 ", b"N 8 8", b"N\t8", b"n 8", b"S 2 1", b"S 2", b"S 2 1 0", b"S -3 8",
+        b"S -0000000003 0000000008", b"AREA 3 4", b"AREA 3", b"AREA 3 4 5", b"AREA 0 4", b"AREA 4096 4097", b"AREA 65536 1", b"AREAX 3 4", b"AREA", b"area 3 4",
+        b"ARE", b"ORIGIN -5 7", b"ORIGIN 0", b"ORIGINX", b"ORIGIN 1000000 -1000000", b"ORIGIN 1000001 0", b"ORIGIN 0 -1000001", b"\xef\xbb\xbfAREA 3 4",
+    ];
+    let moved = Some(Area { w: 3, h: 4, ox: -5, oy: 7 });
+    for area in [None, Some(Area::new(3, 4)), moved] {
+        let long = [b'1'; 59];
+        let lengths = [[b"AREA ", &long[..]].concat(), [b"AREA 1", &long[..]].concat(), [b"N 1", &long[..]].concat(), [b"ORIGIN", &long[..]].concat()];
+        for line in whole.iter().map(|line| line.to_vec()).chain(lengths) {
+            print_line(area, &line);
+        }
+    }
+    for text in HOSTILE.iter().chain(&BY_PLACE) {
+        for line in [[b"N ", *text].concat(), [b"S -4 ", *text].concat(), [b"AREA ", *text, b" 4"].concat(), [b"ORIGIN 0 ", *text].concat()] {
+            print_line(moved, &line);
+        }
+    }
+}
+
+fn texts() {
+    let every = [&HOSTILE[..], &BY_PLACE[..]].concat();
+    print_texts("number_to_square", &[3, 4, -5, 7, 8], 4, &every);
+    print_texts("square_to_number", &[9, 4, -7, 7, -3, 8], 4, &every);
+    let few: [&[u8]; 13] = [
+        b"0", b"7", b"0000000001", b"000000001", b"2147483648", b"4294967295", b"4294967296", b"-1", b"-0", b"-0000000001", b"3E4", b"1 2", b"3\0",
+    ];
+    for (call, n) in [
+        ("number_to_square", &[3, 4, -5, 7, 8][..]),
+        ("square_to_number", &[9, 4, -7, 7, -3, 8]),
+        ("runs_for_window", &[9, 4, -7, 0, -3, 1, -1, 2]),
+    ] {
+        print_text(call, &n.iter().map(padded).collect::<Vec<_>>());
+        for place in 0..n.len() {
+            print_texts(call, n, place, &few);
+        }
+    }
+    // What is not a number comes before what is refused of the rest.
+    for fields in [[&b"0"[..], b"4", b"0", b"0", b"3E4"], [b"3", b"4", b"1000001", b"0", b"3E4"], [b"0", b"x", b"0", b"0", b"1"]] {
+        print_text("number_to_square", &fields.map(|text| text.to_vec()));
+    }
+}
+
+// Each of these would be an answer if it were cut to 32 bits.
+fn wides() {
+    let over = 1i64 << 32;
+    for number in [over, over + 8, -1, -over, i64::MAX, i64::MIN] {
+        print_wide("number_to_square", &[3, 4, 0, 0, number]);
+    }
+    for wide in [over, -over] {
+        for (call, n) in [
+            ("number_to_square", &[3, 4, 0, 0, 8][..]),
+            ("square_to_number", &[3, 4, -5, 7, -3, 8]),
+            ("finish_square", &[3, 4, -5, 7]),
+            ("runs_for_window", &[3, 4, -5, 7, -5, 7, -4, 8]),
+        ] {
+            for place in 0..n.len() {
+                let mut with = n.to_vec();
+                with[place] += wide;
+                print_wide(call, &with);
+            }
+        }
+    }
+    for least in [i32::MAX as i64 + 1, i32::MIN as i64 - 1] {
+        print_wide("square_to_number", &[3, 4, 0, 0, least, 1]);
+        print_wide("square_to_number", &[3, 4, 0, least, 2, 1]);
+    }
+    for (from, to) in [(2 * over, over), (over, 2 * over), (-over, -2 * over), (-2 * over, -over), (over, over)] {
+        print_wide("runs_for_window", &[3, 4, 0, 0, from, 0, to, 1]);
+        print_wide("runs_for_window", &[3, 4, 0, 0, 0, from, 1, to]);
+        print_wide("runs_for_window", &[0, 4, 0, 0, 0, from, 1, to]);
+        print_wide("runs_for_window", &[3, 4, 0, 1_000_001, 0, from, 1, to]);
+    }
+}
+
+fn main() {
+    println!("{READ_SO}");
+    let granted = SMALL.into_iter().chain(LARGE).zip((0..3).cycle()).flat_map(|(area, i)| [(area, (0, 0)), (area, ORIGINS[i])]);
+    let refused = REFUSED.into_iter().zip([ORIGINS[0], BEYOND[0]].into_iter().cycle());
+    let beyond = BEYOND.into_iter().map(|origin| ((3, 4), origin));
+    for (area, origin) in granted.chain(refused).chain(beyond) {
+        lookups(area, origin);
+        windows(area, origin);
+    }
+    rooms();
+    tables();
+    lines();
+    texts();
+    wides();
+}
