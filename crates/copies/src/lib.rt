@@ -11,7 +11,7 @@ ghost use Rattle.division.specs.Forms.{block};
 ghost use Rattle.leaves.specs.Walk.{place, filled-with};
 ghost use Rattle.copies.specs.Copies.{image, copied, Agree, Tells, Held, Again};
 
-// A place of one block as the other has it. Near 65,535 by 65,535 the sum of two places has not 32 bits: what wraps there wraps back.
+// A place of one block as the other has it. The difference c of two places may lie below 0: what wraps there wraps back.
 fn image_of(x: u32, c: u32, opposite: bool) -> u32
     ensures { λ r. ⌜ r ≡ image «opposite» c x ⌝ }
 {

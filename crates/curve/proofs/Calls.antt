@@ -151,6 +151,7 @@ module _ (area : Area) (ok : grid-accepted area ≡ true) where
 -- An answered lookup is one of an area on the grid, and comes from an old square.
 pub record Old-square (area : Area) (n : ℕ) (x y : ℤ) (k : ℕ) : Type 0 where
   pub on : grid-accepted area ≡ true
+  pub numbered : n < area .w * area .h
   pub east : ℕ
   pub north : ℕ
   pub old : number-to-square (area .w) (area .h) n ≡ answered (east ∷ north ∷ k ∷ [])
@@ -165,6 +166,7 @@ module _ (area : Area) (n : ℕ) (x y : ℤ) (k : ℕ) (e : number-to-square-at 
       let is = sym (number-answered-at area p n l) ∙ e in
       record {
         on = p;
+        numbered = l;
         east = s .x;
         north = s .y;
         old = number-answered (area .w) (area .h) (grid-passed area p .0) n l
@@ -203,6 +205,13 @@ module _ (area : Area) (n : ℕ) (x y : ℤ) (k : ℕ) (e : number-to-square-at 
       subst⁻¹ (λ (m : ℕ). m ≤ 41) count-is-at
       (at-most-41 (area .w) (area .h) (all .w-least) (all .h-least) (all .squares-most) (square-of (whole (area .w) (area .h)) n))
 
+  -- "The plotter keeps a square number in 24 bits": every number that a call takes or answers has no more.
+  pub number-in-24-bits : n < 16777216
+  number-in-24-bits =
+      let was = old-square in
+      let most = limits (area .w) (area .h) (grid-passed area (was .on) .0) .squares-most in
+      omega (arith, was .numbered)
+
 -- And the number found has the square asked.
 module _ (area : Area) (x y : ℤ) (n k : ℕ) (e : square-to-number-at area x y ≡ answered (n ∷ k ∷ [])) where
   back-by : (a : Bool) (dx dy : ℤ) → grid-accepted area ≡ a → x -ℤ area .ox ≡ dx → y -ℤ area .oy ≡ dy → number-to-square-at area n ≡ found x y k
@@ -221,6 +230,9 @@ module _ (area : Area) (x y : ℤ) (n k : ℕ) (e : square-to-number-at area x y
 
   pub square-at-most-41-blocks : k ≤ 41
   square-at-most-41-blocks = at-most-41-blocks area n x y k square-back-at
+
+  pub answered-number-in-24-bits : n < 16777216
+  answered-number-in-24-bits = number-in-24-bits area n x y k square-back-at
 
 -- "The finish square becomes the square of number w·h - 1": so on the grid.
 pub record Last-at (area : Area) : Type 0 where

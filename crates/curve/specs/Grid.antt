@@ -22,7 +22,7 @@ moved-by-origin ox oy (x ∷ y ∷ more) = (ox +ℤ pos x) ∷ (oy +ℤ pos y) �
 unfoldable pub from-origin : (ox oy : ℤ) → Figures → SignedFigures
 from-origin ox oy f = cond (eqb (f .refusal) 0) (record { refusal = 0; values = moved-by-origin ox oy (f .values) }) (signed f)
 
--- "12 for an origin beyond the range, .. in calls that ask or answer squares directly after 1", and then the call's own: `on-grid`.
+-- "12 for an origin beyond the range, .. in calls that ask or answer squares directly after 1", with 13 between them, and then the call's own: `on-grid`.
 unfoldable pub number-to-square-at : (area : Area) (number : ℕ) → SignedFigures
 number-to-square-at area number = from-origin (area .ox) (area .oy) (on-grid area 3 (number-to-square (area .w) (area .h) number))
 

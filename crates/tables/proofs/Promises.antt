@@ -8,12 +8,13 @@ use native.Mathlib.Nat.{zero-add}
 use native.Mathlib.Omega.{arith}
 use borrow.Author.Tests.{eqb-true, eqb-false, eq-eqb, ne-eqb}
 use lib.Dec.{eqb, lit≤, lit<}
-use lib.ListN.{length, getD}
+use lib.ListN.{length, getD, replicate}
 use Rattle.division.proofs.Small.{blocks-two}
 use Rattle.terms.specs.declared.Area.{Area}
 use Rattle.terms.specs.declared.Refusal.the-variants.{TableLength}
-use Rattle.terms.specs.Terms.{accepted, area-refusal, Figures, answered, refused}
+use Rattle.terms.specs.Terms.{most-squares, lengths-accepted, accepted, area-refusal, refusal-number, Figures, answered, refused}
 use Rattle.terms.proofs.Laws.{limits, named, named-back, refusal-some, refusal-not-0, figure}
+use Rattle.terms.proofs.Laws.{area-refused-1, area-refused-13, lengths-refused, squares-refused}
 use Rattle.terms.proofs.Ones.{one-equation, by-figures}
 use Rattle.division.specs.Division.{square, whole, square-of, number-of, blocks, +x, +y}
 use Rattle.division.proofs.Blocks.{whole-inside, few-blocks}
@@ -129,6 +130,23 @@ asked-by w h t n answer true false p q e =
     absurd (omega (arith, ap (λ f. f .refusal) (length-refused w h t n answer p (eqb-false (length t) (w * h) q))))
 asked-by w h t n answer false b p q e =
     absurd (refusal-some (area-refusal w h) (ap (λ f. f .refusal) (area-refused w h t n answer p) ∙ e))
+
+-- "13, directly after 1 and before everything else": fills and checks are refused with 1 and 13 whatever the table.
+module _ (w h : ℕ) (bad : accepted w h ≡ false) (r : ℕ) (number : refusal-number (area-refusal w h) ≡ r) (t ds : List ℕ) where
+  refused-so : (n : ℕ) (answer : Figures) → on-table w h t n answer ≡ record { refusal = r; values = replicate n 0 }
+  refused-so n answer = sym (area-refused w h t n answer bad) ∙ ap (λ m. record { refusal = m; values = replicate n 0 }) number
+
+  both-refused : (fill w h t ≡ record { refusal = r; values = 0 ∷ [] }) × (check w h ds t ≡ record { refusal = r; values = 0 ∷ 0 ∷ 0 ∷ [] })
+  unfolding fill check
+  both-refused = (refused-so 1 (answered (length (blocks (whole w h)) ∷ [])), refused-so 3 (answered (judged 0 ds t)))
+
+pub tables-refused-1 : (w h : ℕ) → lengths-accepted w h ≡ false → (t ds : List ℕ)
+    → (fill w h t ≡ record { refusal = 1; values = 0 ∷ [] }) × (check w h ds t ≡ record { refusal = 1; values = 0 ∷ 0 ∷ 0 ∷ [] })
+tables-refused-1 w h bad = both-refused w h (lengths-refused w h bad) 1 (area-refused-1 w h bad)
+
+pub tables-refused-13 : (w h : ℕ) → lengths-accepted w h ≡ true → most-squares < w * h → (t ds : List ℕ)
+    → (fill w h t ≡ record { refusal = 13; values = 0 ∷ [] }) × (check w h ds t ≡ record { refusal = 13; values = 0 ∷ 0 ∷ 0 ∷ [] })
+tables-refused-13 w h ok more = both-refused w h (squares-refused w h more) 13 (area-refused-13 w h ok)
 
 module _ (w h : ℕ) (t : List ℕ) where
   -- "A table's length must be exactly w·h": of an accepted area any other is refusal 4, in fills and checks.
