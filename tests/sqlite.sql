@@ -50,11 +50,17 @@ SELECT count(*) FROM uvalinda_runs(3, 4, 9223372036854775807, 0, 922337203685477
 SELECT count(*) FROM uvalinda_runs(3, 4, 9223372036854775806, 0, 9223372036854775807, 0); -- refused 2
 SELECT count(*) FROM uvalinda_runs(3, 4, 0, -9223372036854775807, 0, -9223372036854775808); -- refused 10
 
+-- The rows are asked for in any way.
+SELECT count(*) FROM uvalinda_runs(3, 4, 0, 0, 1, 1) WHERE first = 0 OR last = 10; -- 2
+SELECT count(*) FROM uvalinda_runs(3, 4, 0, 0, 1, 1) WHERE first < 5 OR first > 9; -- 1
+SELECT count(*) FROM uvalinda_runs(3, 4, 0, 0, 1, 1) AS run JOIN (SELECT 10 AS number) AS r ON r.number = run.first OR r.number = run.last; -- 1
+SELECT count(*) FROM uvalinda_runs(3, 4, 0, 0, 1, 1) WHERE rowid = 0 OR rowid = 1; -- 2
+
 -- As many arguments as there have to be.
-SELECT count(*) FROM uvalinda_runs; -- Parse error: uvalinda_runs takes w, h, x0, y0, x1, y1, or w, h, ox, oy, x0, y0, x1, y1
-SELECT count(*) FROM uvalinda_runs(3, 4, 0, 0, 1); -- Parse error: uvalinda_runs takes w, h, x0, y0, x1, y1, or w, h, ox, oy, x0, y0, x1, y1
-SELECT count(*) FROM uvalinda_runs(3, 4, 0, 0, 1, 1, 1); -- Parse error: uvalinda_runs takes w, h, x0, y0, x1, y1, or w, h, ox, oy, x0, y0, x1, y1
-SELECT count(*) FROM uvalinda_runs WHERE a2 = 4 AND a8 = 1; -- Parse error: uvalinda_runs takes w, h, x0, y0, x1, y1, or w, h, ox, oy, x0, y0, x1, y1
+SELECT count(*) FROM uvalinda_runs; -- Runtime error: uvalinda_runs takes w, h, x0, y0, x1, y1, or w, h, ox, oy, x0, y0, x1, y1
+SELECT count(*) FROM uvalinda_runs(3, 4, 0, 0, 1); -- Runtime error: uvalinda_runs takes w, h, x0, y0, x1, y1, or w, h, ox, oy, x0, y0, x1, y1
+SELECT count(*) FROM uvalinda_runs(3, 4, 0, 0, 1, 1, 1); -- Runtime error: uvalinda_runs takes w, h, x0, y0, x1, y1, or w, h, ox, oy, x0, y0, x1, y1
+SELECT count(*) FROM uvalinda_runs WHERE a2 = 4 AND a8 = 1; -- Runtime error: uvalinda_runs takes w, h, x0, y0, x1, y1, or w, h, ox, oy, x0, y0, x1, y1
 
 -- SQLite takes the functions for what they are: the same answer for the same arguments, and no harm in a schema that is not trusted.
 PRAGMA trusted_schema = OFF;

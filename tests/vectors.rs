@@ -18,7 +18,7 @@ const READ_SO: &str = "\
 #   handle_line w h ox oy line = w h ox oy of the area in force after the line, and the reply; 0 0 0 0 is none
 # Where it is refused, the word refused and the number are due. `text` before a call: its arguments are given as text, and each is read as a field of a line;
 # one that is not a number is refused with 5 before anything else. `wide` before a call: an argument is an integer that a C call cannot be given, and is
-# refused as one that is too far off.";
+# refused as one that is too far off. No vector has refusal 9: it is proved that it never comes.";
 
 const SMALL: [(i64, i64); 12] = [(1, 1), (1, 5), (5, 1), (2, 2), (3, 2), (4, 2), (3, 3), (4, 3), (5, 2), (3, 4), (7, 4), (40, 33)];
 const LARGE: [(i64, i64); 5] = [(4096, 4096), (8192, 2048), (65535, 256), (65535, 1), (1, 65535)];

@@ -203,6 +203,9 @@ static void coordinate(sqlite3_context *context, int given, sqlite3_value **valu
 /* The table of runs. Its arguments are hidden columns behind first and last. */
 enum { FIRST, LAST, HIDDEN };
 
+/* The plans: with all arguments, or without. */
+enum { COMPLETE, INCOMPLETE };
+
 typedef struct {
     sqlite3_vtab_cursor base;
     sqlite3_value *values[ARGUMENTS];
@@ -240,9 +243,11 @@ static int failed(sqlite3_vtab *table, char *said) {
 /*
  * How the runs are come by: from the arguments, and nothing else. Where first or last is compared with something that is known, the runs would be made again
  * for each row of another table. That is right and ruinous, and the cost says so: the runs belong outside and the readings inside, whatever SQLite supposes
- * of a table that it has not analyzed.
+ * of a table that it has not analyzed. A plan without all arguments is none to take; SQLite asks for such ones too, as for each side of an OR, so that it is
+ * an error only where it is carried out.
  */
 static int runs_plan(sqlite3_vtab *table, sqlite3_index_info *info) {
+    (void)table;
     int inside = 0, given = 0; /* a bit for each argument */
     for (int i = 0; i < info->nConstraint; i++) {
         int place = info->aConstraint[i].iColumn - HIDDEN, usable = info->aConstraint[i].usable;
@@ -258,8 +263,14 @@ static int runs_plan(sqlite3_vtab *table, sqlite3_index_info *info) {
         }
     }
     if (given != (1 << (ARGUMENTS - 2)) - 1 && given != (1 << ARGUMENTS) - 1) {
-        return failed(table, sqlite3_mprintf("uvalinda_runs takes w, h, x0, y0, x1, y1, or w, h, ox, oy, x0, y0, x1, y1"));
+        for (int i = 0; i < info->nConstraint; i++) {
+            info->aConstraintUsage[i].argvIndex = info->aConstraintUsage[i].omit = 0;
+        }
+        info->idxNum = INCOMPLETE;
+        info->estimatedCost = 1e99;
+        return SQLITE_OK;
     }
+    info->idxNum = COMPLETE;
     info->estimatedCost = inside ? 1e12 : 100;
     info->estimatedRows = 100;
     return SQLITE_OK;
@@ -302,12 +313,15 @@ static uint32_t ask(const sqlite3_int64 *n, uint32_t *runs, size_t places, uint3
                                     UVALINDA_RUNS_PLACES);
 }
 
-static int runs_filter(sqlite3_vtab_cursor *base, int unused, const char *unused_too, int given, sqlite3_value **values) {
-    (void)unused, (void)unused_too;
+static int runs_filter(sqlite3_vtab_cursor *base, int plan, const char *unused, int given, sqlite3_value **values) {
+    (void)unused;
     Cursor *cursor = (Cursor *)base;
     sqlite3_int64 n[ARGUMENTS];
     uint32_t count[UVALINDA_RUNS_PLACES];
     emptied(cursor);
+    if (plan == INCOMPLETE) {
+        return failed(base->pVtab, sqlite3_mprintf("uvalinda_runs takes w, h, x0, y0, x1, y1, or w, h, ox, oy, x0, y0, x1, y1"));
+    }
     if (any_null(given, values)) {
         return SQLITE_OK;
     }

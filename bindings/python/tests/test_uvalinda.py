@@ -135,8 +135,10 @@ class Tables(unittest.TestCase):
 
     def test_any_other_buffer_is_none(self):
         spread = memoryview(array.array("I", bytes(96)))[::2]
+        aside = memoryview(bytearray(49))[1:].cast("I")
         swapped = (ctypes.c_uint32.__ctype_be__ if sys.byteorder == "little" else ctypes.c_uint32.__ctype_le__) * 12
-        for table in (bytearray(48), array.array("H", bytes(24)), array.array("L", bytes(96)), array.array("f", bytes(48)), spread, swapped(), [0] * 12, None):
+        for table in (bytearray(48), array.array("H", bytes(24)), array.array("L", bytes(96)), array.array("f", bytes(48)), spread, spread.toreadonly(), aside,
+                      swapped(), [0] * 12, None):
             for call in (Area(3, 4).fill_by_number, Area(3, 4).check_by_square):
                 with self.subTest(table), self.assertRaises(TypeError):
                     call(table)
@@ -149,6 +151,14 @@ class Tables(unittest.TestCase):
             self.assertEqual(list(table), [7] * places)
         with self.assertRaises(uvalinda.AreaLimit):
             Area(0, 4).fill_by_square(array.array("I"))
+
+    def test_a_refusal_that_is_kept_keeps_no_table(self):
+        for call in (Area(3, 4).fill_by_number, Area(3, 4).check_by_number):
+            table = array.array("I")
+            with self.assertRaises(uvalinda.TableLength) as kept:
+                call(table)
+            table.append(7)
+            self.assertEqual(kept.exception.number, 4)
 
 
 def mmap_of(size):
@@ -195,6 +205,7 @@ class Command(unittest.TestCase):
         due = b'y,x,crew,number,refused\n8,-3,a,8,\n8,-3,"b\r\nc",8,\n'
         self.assertEqual(self.ran(table, "3", "4", "-5", "7"), (due, "", 0))
         self.assertEqual(self.ran(b"x,y\r2,1\r", "3", "4"), (b"x,y,number,refused\n2,1,8,\n", "", 0))
+        self.assertEqual(self.ran(b'x,y,crew\n2,1,"a\rb"\n', "3", "4"), (b'x,y,crew,number,refused\n2,1,"a\rb",8,\n', "", 0))
 
     def test_arguments_are_read_as_fields_are(self):
         for arguments, refusal in (("3 4E0", 5), ("03 4", 5), ("-3 4", 5), ("0 4", 1), ("4096 4097", 13), ("3 4 0 1000001", 12)):
@@ -209,9 +220,16 @@ class Command(unittest.TestCase):
         for table in (b"", b"x\n1\n", b"x,y,x\n", b"x,y,number\n", b"refused,x,y\n", b"X,Y\n"):
             self.assertEqual(self.ran(table, "3", "4"), (b"", names, 1))
         self.assertEqual(
-            self.ran(b"x,y\n2,1\n2\n", "3", "4"), (b"x,y,number,refused\n2,1,8,\n", "uvalinda: row 3 has 1 fields and the first row 2\n", 1)
+            self.ran(b"x,y\n2,1\n2\n", "3", "4"), (b"", "uvalinda: row 3 has 1 fields and the first row 2\n", 1)
         )
-        self.assertEqual(self.ran(b'x,y\n"2"1,1\n', "3", "4")[2], 1)
+        for table in (b'x,y\n2,1\n"2"1,1\n', b'x,y\n2,1\n"2,1\n'):
+            out, said, status = self.ran(table, "3", "4")
+            self.assertEqual((out, said.count("\n"), status), (b"", 1, 1))
+
+    def test_what_is_not_open_is_told(self):
+        for closed in ("<&-", ">&-"):
+            run = subprocess.run(f'"{sys.executable}" -m uvalinda 3 4 {closed}', shell=True, stdin=subprocess.DEVNULL, capture_output=True, check=False)
+            self.assertEqual((run.stderr, run.returncode), (b"uvalinda: standard input and output have to be open\n", 1))
 
     def test_what_cannot_be_written_is_told_once(self):
         with open("/dev/full", "wb") as full:

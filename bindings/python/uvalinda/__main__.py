@@ -1,7 +1,8 @@
 """python3 -m uvalinda W H [OX OY] <IN.csv >OUT.csv: adds to each row of a table the number of its square.
 
 The table's first row names its columns. Those named x and y hold the square, and the columns number and refused are added: the number, or the refusal's. Every
-field is read by the library's reader of order lines, as W, H, OX and OY are: 3E4 and 07 are not numbers.
+field is read by the library's reader of order lines, as W, H, OX and OY are: 3E4 and 07 are not numbers. A table that cannot be worked with to its end gives
+nothing on standard output.
 """
 
 import csv
@@ -60,14 +61,26 @@ def extended(area, rows):
         yield [*row, *_looked_up(area, row[x], row[y])]
 
 
+# The writer quotes the bytes of its line ends, so that a field may hold a carriage return; the lines written end as lines do here.
+class _Lines:
+    def __init__(self, stream):
+        self._stream = stream
+
+    def write(self, line):
+        return self._stream.write(line.removesuffix("\r\n") + "\n")
+
+
 def main(arguments):
-    """Reads standard input and writes standard output. What cannot be worked with is told on standard error, and the status is then 1."""
-    # A mark of the byte order, as spreadsheets write it, belongs to no column. All other bytes come out as they came in.
+    """Reads standard input, all of it, and then writes standard output. What cannot be worked with is told on standard error, and the status is then 1."""
+    if sys.stdin is None or sys.stdout is None:
+        return _told("standard input and output have to be open")
+    # A mark of the byte order, as spreadsheets write it, belongs to no column. The bytes of each field come out as they came in.
     sys.stdin.reconfigure(encoding="utf-8-sig", errors="surrogateescape", newline="")
     sys.stdout.reconfigure(encoding="utf-8", errors="surrogateescape")
     csv.field_size_limit(sys.maxsize)
     try:
-        csv.writer(sys.stdout, lineterminator="\n").writerows(extended(_area(arguments), csv.reader(sys.stdin, strict=True)))
+        rows = list(extended(_area(arguments), csv.reader(sys.stdin, strict=True)))
+        csv.writer(_Lines(sys.stdout), lineterminator="\r\n").writerows(rows)
         sys.stdout.flush()
     except OSError as problem:
         # What could not be written is not tried once more at the end.

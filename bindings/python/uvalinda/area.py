@@ -3,7 +3,7 @@
 import dataclasses
 import operator
 import sys
-from ctypes import c_int32, c_uint32, c_uint64
+from ctypes import addressof, alignment, c_int32, c_uint32, c_uint64
 from typing import NamedTuple
 
 from . import raw, refusal
@@ -85,10 +85,15 @@ def _lent(table, to_write):
     native = "@=<" if sys.byteorder == "little" else "@=>"
     if view.itemsize != 4 or view.format.lstrip(native) not in ("I", "i", "L", "l"):
         raise TypeError("a table is a buffer of 32-bit whole numbers")
+    if not view.c_contiguous:
+        raise TypeError("the places of a table stand one behind the other")
     if to_write and view.readonly:
         raise TypeError("the table cannot be written")
     places = c_uint32 * (view.nbytes // 4)
-    return places.from_buffer_copy(view) if view.readonly else places.from_buffer(view)
+    lent = places.from_buffer_copy(view) if view.readonly else places.from_buffer(view)
+    if len(lent) > 0 and addressof(lent) % alignment(c_uint32) != 0:
+        raise TypeError("the table starts where no 32-bit number can stand")
+    return lent
 
 
 @dataclasses.dataclass(frozen=True)
@@ -151,7 +156,9 @@ class Area:
     def _fill(self, call, table):
         lent = _lent(table, True)
         blocks = (c_uint64 * 1)()
-        refusal.unless_refused(call(*self._grid[:2], lent, len(lent), blocks, len(blocks)))
+        told = call(*self._grid[:2], lent, len(lent), blocks, len(blocks))
+        del lent  # A refusal that is kept would keep the table lent.
+        refusal.unless_refused(told)
         return blocks[0]
 
     def fill_by_number(self, table):
@@ -168,7 +175,9 @@ class Area:
     def _check(self, call, table):
         lent = _lent(table, False)
         judged = (c_uint32 * 3)()
-        refusal.unless_refused(call(*self._grid[:2], lent, len(lent), judged, len(judged)))
+        told = call(*self._grid[:2], lent, len(lent), judged, len(judged))
+        del lent
+        refusal.unless_refused(told)
         wrong, place, due = judged
         return Wrong(place, due) if wrong else Right()
 
