@@ -1,16 +1,16 @@
 // What the library should answer, worked out independently: written from documents 01 and 02 alone, in plain Rust, with no code of the library. The test
 // programs share it.
 
-#[derive(Clone, Copy)]
+#[derive(Clone, Copy, PartialEq)]
 pub struct Square {
     pub x: i64,
     pub y: i64,
 }
 
-#[derive(Clone, Copy)]
-struct Direction {
-    x: i64,
-    y: i64,
+#[derive(Clone, Copy, PartialEq)]
+pub struct Direction {
+    pub x: i64,
+    pub y: i64,
 }
 
 impl Direction {
@@ -23,26 +23,26 @@ fn moved(s: Square, d: Direction, n: i64) -> Square {
     Square { x: s.x + d.x * n, y: s.y + d.y * n }
 }
 
-#[derive(Clone, Copy)]
-struct Block {
-    start: Square,
-    run: Direction,
-    a: i64,
-    side: Direction,
-    b: i64,
+#[derive(Clone, Copy, PartialEq)]
+pub struct Block {
+    pub start: Square,
+    pub run: Direction,
+    pub a: i64,
+    pub side: Direction,
+    pub b: i64,
 }
 
-fn whole(w: i64, h: i64) -> Block {
+pub fn whole(w: i64, h: i64) -> Block {
     Block { start: Square { x: 0, y: 0 }, run: Direction { x: 1, y: 0 }, a: w, side: Direction { x: 0, y: 1 }, b: h }
 }
 
-fn even_half(length: i64) -> i64 {
+pub fn even_half(length: i64) -> i64 {
     let half = length / 2;
     if length > 2 && half % 2 == 1 { half + 1 } else { half }
 }
 
 // The parts of a block in order: none where it is straight.
-fn parts(k: Block) -> Vec<Block> {
+pub fn parts(k: Block) -> Vec<Block> {
     if k.b == 1 || k.a == 1 {
         return vec![];
     }
@@ -61,7 +61,7 @@ fn parts(k: Block) -> Vec<Block> {
 }
 
 // The n-th square of a straight block.
-fn straight(k: Block, n: i64) -> Square {
+pub fn straight(k: Block, n: i64) -> Square {
     if k.b == 1 { moved(k.start, k.run, n) } else { moved(k.start, k.side, n) }
 }
 

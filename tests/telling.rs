@@ -1,8 +1,9 @@
-// telling: every case of the division's two tables, the worked cases and the telling ones, is as the independent program has it. The tables are read as
-// text, and what is not understood there is an error.
+// telling: every case of the division's three tables, the worked cases, the telling ones and the single cuts, is as the independent program has it. The
+// tables are read as text, and what is not understood there is an error.
 #[allow(dead_code)] // lookups, checks and order lines are not needed here
 mod independent;
 
+use independent::{Block, Direction, Square};
 use std::fs;
 
 // The words of a table: what follows `NAME =` down to an empty line, without comments, and each bracket a word of its own.
@@ -45,20 +46,69 @@ impl<'a> Reader<'a> {
         (self.number(), self.number())
     }
 
-    fn squares(&mut self) -> Vec<(i64, i64)> {
+    // A list, member by member.
+    fn list<T>(&mut self, read: impl Fn(&mut Self) -> T) -> Vec<T> {
         let mut all = vec![];
         while !self.at("[]") {
-            self.expect("square");
-            all.push(self.pair());
+            all.push(read(self));
             self.expect("∷");
         }
         self.expect("[]");
         all
     }
 
+    fn square(&mut self) -> (i64, i64) {
+        self.expect("square");
+        self.pair()
+    }
+
+    fn direction(&mut self) -> Direction {
+        match self.word() {
+            "+x" => Direction { x: 1, y: 0 },
+            "+y" => Direction { x: 0, y: 1 },
+            "-x" => Direction { x: -1, y: 0 },
+            "-y" => Direction { x: 0, y: -1 },
+            found => panic!("{}: '{found}' is no direction", self.path),
+        }
+    }
+
+    // A block by its start, its run and its side, or the whole of an area.
+    fn block(&mut self) -> Block {
+        match self.word() {
+            "block" => {
+                let (x, y) = self.pair();
+                Block { start: Square { x, y }, run: self.direction(), a: self.number(), side: self.direction(), b: self.number() }
+            }
+            "whole" => independent::whole(self.number(), self.number()),
+            found => panic!("{}: '{found}' is no block", self.path),
+        }
+    }
+
+    fn bracketed<T>(&mut self, read: impl Fn(&mut Self) -> T) -> T {
+        self.expect("(");
+        let value = read(self);
+        self.expect(")");
+        value
+    }
+
     // Reads a case, and says whether the independent program has it so.
     fn case(&mut self) -> bool {
-        let kind = self.word();
+        match self.word() {
+            "half" => independent::even_half(self.number()) == self.number(),
+            "straight" => {
+                let (k, way) = (self.bracketed(Self::block), self.direction());
+                let second = independent::straight(k, 1);
+                independent::parts(k).is_empty() && (second.x - k.start.x, second.y - k.start.y) == (way.x, way.y)
+            }
+            "cut" => {
+                let (k, due) = (self.bracketed(Self::block), self.bracketed(|r| r.list(Self::block)));
+                independent::parts(k) == due
+            }
+            kind => self.case_of_a_curve(kind),
+        }
+    }
+
+    fn case_of_a_curve(&mut self, kind: &str) -> bool {
         let (w, h) = self.pair();
         assert!(independent::accepted(w, h).is_ok(), "{}: {w} by {h} is no area", self.path);
         let (curve, counts): (Vec<(i64, i64)>, Vec<i64>) = independent::traversal(w, h).into_iter().map(|(s, count)| ((s.x, s.y), count)).unzip();
@@ -72,9 +122,7 @@ impl<'a> Reader<'a> {
                 curve.iter().position(|s| *s == square) == Some(number as usize) && counts[number as usize] == count
             }
             "traversal" => {
-                self.expect("(");
-                let squares = self.squares();
-                self.expect(")");
+                let squares = self.bracketed(|r| r.list(Self::square));
                 curve == squares
             }
             "divided" => independent::fill(w, h, curve.len()) == Ok(vec![self.number()]),
@@ -101,7 +149,7 @@ fn compared(path: &str, name: &str) -> usize {
 }
 
 fn main() {
-    let tables = [("crates/division/specs/Division/Worked.antt", "worked"), ("crates/division/specs/Division/Telling.antt", "telling")];
-    let count: usize = tables.iter().map(|(path, name)| compared(path, name)).sum();
-    println!("telling: {count} cases of the two tables, as the independent program has them");
+    let tables = [("Worked", "worked"), ("Telling", "telling"), ("SingleCuts", "single-cuts")];
+    let count: usize = tables.iter().map(|(file, name)| compared(&format!("crates/division/specs/Division/{file}.antt"), name)).sum();
+    println!("telling: {count} cases of the three tables, as the independent program has them");
 }

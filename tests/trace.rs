@@ -50,7 +50,7 @@ fn public_functions(path: &Path) -> Vec<String> {
     let text = fs::read_to_string(path).expect("the source can be read");
     let name = |line: &str| {
         let rest = ["pub fn ", "pub extern \"C\" fn "].iter().find_map(|kind| line.trim_start().strip_prefix(kind))?;
-        Some(rest.split('(').next()?.to_string())
+        Some(rest.split(['(', '<']).next()?.to_string())
     };
     text.lines().filter_map(name).collect()
 }

@@ -14,11 +14,11 @@ use Rattle.division.specs.declared.Choice.the-variants.{LongCut, UCut}
 use Rattle.division.specs.declared.Placed.{Placed}
 use Rattle.division.specs.Division.{Block, even-half, First, Second, A, C, part, curve}
 use Rattle.division.specs.Forms.{block}
-use Rattle.division.proofs.Once.{length-curve}
+use Rattle.division.proofs.EachSquareOnce.{length-curve}
 use Rattle.leaves.specs.Walk.{place, over, wrong-packed, least-one, checked, Fits}
 use Rattle.leaves.proofs.Entries.{squares-fit}
 use Rattle.leaves.proofs.Checks.{right-one, over-most, over-below}
-use Rattle.leaves.proofs.Parts.{Cut, first-call, a-call}
+use Rattle.leaves.proofs.PartByPart.{Cut, first-call, a-call}
 use Rattle.copies.specs.Copies.{Held, Again}
 use Rattle.copies.proofs.Entered.{held-places, places-held}
 use Rattle.copies.proofs.Alike.{entry-below}

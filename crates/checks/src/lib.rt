@@ -70,8 +70,8 @@ fn check_choice(
     };
     let case = division::choose(a, b);
     match case {
-        Choice::StraightRun => leaves::check_run(table, k, area, at, by_square, so_far),
-        Choice::StraightSide => leaves::check_run(
+        Choice::StraightRun => leaves::check_straight(table, k, area, at, by_square, so_far),
+        Choice::StraightSide => leaves::check_straight(
             table,
             leaves::exchanged_block(k),
             area,

@@ -1,41 +1,52 @@
 -- What the lines that ask are answered, in the documents' words: a line with its library call's figures, or with its refusal. So a reply's numbers are the
 -- call's own, k among them.
-use mathlib.Core.Bool.{true, false}
+use mathlib.Core.Bool.{Bool, true, false, cond}
 use mathlib.Core.List.{List, [], _∷_}
-use mathlib.Core.Path.{_≡_, refl, ap, _∙_}
-use Prim.Native.Nat.{ℕ, _-_, _*_, _<_}
+use mathlib.Core.Logic.{_↔_}
+use mathlib.Core.Path.{_≡_, refl, sym, ap, ap₂, _∙_}
+use Prim.Native.Nat.{ℕ, _-_, _*_}
+use native.Mathlib.Omega.{arith}
 use lib.IntN.{ℤ, pos}
 use Rattle.terms.specs.declared.Area.{Area}
 use Rattle.terms.specs.declared.Refusal.{Refusal}
-use Rattle.terms.specs.Terms.{most-squares, lengths-accepted, accepted, area-refusal, answered, refused, signed, in-signs, origin-accepted}
-use Rattle.terms.proofs.Laws.{refusal-not-0, area-refused-1, area-refused-13, lengths-refused, squares-refused}
+use Rattle.terms.specs.declared.Refusal.the-variants.{OriginLimit}
+use Rattle.terms.specs.Terms.{accepted, grid-accepted, answered, signed, in-signs, origin-accepted, at-post}
+use Rattle.terms.proofs.Meanings.{Lengths-within, Lengths-beyond, Squares-beyond, Origin-within, Origin-beyond, origin-mean, origin-exactly}
 use Rattle.division.specs.Division.{whole, square-of}
-use Rattle.curve.specs.Lookups.{finish-square}
-use Rattle.curve.specs.Grid.{number-to-square-at, square-to-number-at}
-use Rattle.curve.proofs.Calls.{found, finish-as-before}
+use Rattle.curve.specs.Lookups.{number-to-square-at, square-to-number-at, finish-square-at}
+use Rattle.curve.proofs.Demands.{found, number-asked, square-asked}
+use Rattle.curve.proofs.Moved.{finish-at-post}
+use Rattle.curve.proofs.Refused.{finish-refused-1, finish-refused-13}
 use Rattle.lines.specs.declared.Request as Requests
 use Rattle.lines.specs.Lines.{AREA, ORIGIN, N, S, request, Spelt, Spelt-signed, Says-one, Says-two}
 use Rattle.lines.proofs.Asking.{number-spelt, area-spelt, origin-spelt, square-spelt}
 use Rattle.clerk.specs.declared.Clerk.{Clerk}
 use Rattle.clerk.specs.declared.Clerk.the-variants.{NoArea, InForce}
 use Rattle.clerk.specs.Clerk as spec
+use Rattle.clerk.proofs.Handling.{mark, call-refused-exactly}
+use Rattle.clerk.proofs.InForce.{in-force}
 
 -- "5, 6, 8": a line that is refused for what it says.
 pub line-refused : (clerk : Clerk) (line : List ℕ) (r : Refusal) → request line ≡ Requests.the-variants.Refused r
     → spec.reply clerk line ≡ spec.refuses r
 unfolding spec.reply
-line-refused clerk line r e = ap (spec.reply-to clerk) e
+line-refused clerk line r e = ap (spec.reply-to (spec.counted clerk)) e
 
 -- "CELL x y k": the line `N i`, its number in either spelling, under an area, with the figures of number to square, or its refusal; and 7 with no area.
 module _ (i : ℕ) (line : List ℕ) (says : Says-one N i line) where
   pub cell-replied : (area : Area) (x y : ℤ) (k : ℕ) → number-to-square-at area i ≡ found x y k
       → spec.reply (InForce area) line ≡ spec.says spec.Cell (x ∷ y ∷ pos k ∷ [])
   unfolding spec.reply
-  cell-replied area x y k e = ap (spec.reply-to (InForce area)) (number-spelt line i says) ∙ ap (spec.from-call spec.Cell []) e
+  cell-replied area x y k e =
+      ap₂ spec.reply-to (in-force area (number-asked area i x y k e .on)) (number-spelt line i says) ∙ ap (spec.from-call spec.Cell []) e
 
-  pub number-refused : (area : Area) (r : Refusal) → number-to-square-at area i ≡ signed (refused r 3) → spec.reply (InForce area) line ≡ spec.refuses r
+  pub number-refused : (area : Area) → grid-accepted area ≡ true → (n : ℕ) → (n ≡ 0 → ⊥)
+      → (spec.reply (InForce area) line ≡ spec.says spec.Refused (pos n ∷ [])) ↔ (number-to-square-at area i .refusal ≡ n)
   unfolding spec.reply
-  number-refused area r e = ap (spec.reply-to (InForce area)) (number-spelt line i says) ∙ ap (spec.from-call spec.Cell []) e ∙ rw (refusal-not-0 r) refl
+  number-refused area on n some =
+      let is = ap₂ spec.reply-to (in-force area on) (number-spelt line i says) in
+      let law = call-refused-exactly spec.Cell [] (number-to-square-at area i) (λ z. omega arith) n some in
+      (λ e. law .0 (sym is ∙ e), λ e. is ∙ law .1 e)
 
   pub number-without-area : spec.reply NoArea line ≡ spec.says spec.Refused (pos 7 ∷ [])
   unfolding spec.reply
@@ -46,12 +57,17 @@ module _ (x y : ℤ) (line : List ℕ) (says : Says-two Spelt-signed S x y line)
   pub number-replied : (area : Area) (i k : ℕ) → square-to-number-at area x y ≡ answered (i ∷ k ∷ [])
       → spec.reply (InForce area) line ≡ spec.says spec.Number (pos i ∷ pos k ∷ [])
   unfolding spec.reply in-signs
-  number-replied area i k e = ap (spec.reply-to (InForce area)) (square-spelt x y line says) ∙ ap (λ f. spec.from-call spec.Number [] (signed f)) e
+  number-replied area i k e =
+      let on = square-asked area x y i k e .on in
+      ap₂ spec.reply-to (in-force area on) (square-spelt x y line says) ∙ ap (λ f. spec.from-call spec.Number [] (signed f)) e
 
-  pub square-refused : (area : Area) (r : Refusal) → square-to-number-at area x y ≡ refused r 2 → spec.reply (InForce area) line ≡ spec.refuses r
+  pub square-refused : (area : Area) → grid-accepted area ≡ true → (n : ℕ) → (n ≡ 0 → ⊥)
+      → (spec.reply (InForce area) line ≡ spec.says spec.Refused (pos n ∷ [])) ↔ (square-to-number-at area x y .refusal ≡ n)
   unfolding spec.reply
-  square-refused area r e =
-      ap (spec.reply-to (InForce area)) (square-spelt x y line says) ∙ ap (λ f. spec.from-call spec.Number [] (signed f)) e ∙ rw (refusal-not-0 r) refl
+  square-refused area on n some =
+      let is = ap₂ spec.reply-to (in-force area on) (square-spelt x y line says) in
+      let law = call-refused-exactly spec.Number [] (signed (square-to-number-at area x y)) (λ z. omega arith) n some in
+      (λ e. law .0 (sym is ∙ e), λ e. is ∙ law .1 e)
 
   pub square-without-area : spec.reply NoArea line ≡ spec.says spec.Refused (pos 7 ∷ [])
   unfolding spec.reply
@@ -59,13 +75,31 @@ module _ (x y : ℤ) (line : List ℕ) (says : Says-two Spelt-signed S x y line)
 
 -- "An accepted line prints `ORIGIN ox oy`", and "Refusals: 7 also for ORIGIN with no area in force; 12 for an origin beyond the range, in a line after 7".
 module _ (ox oy : ℤ) (line : List ℕ) (says : Says-two Spelt-signed ORIGIN ox oy line) where
-  pub origin-replied : (area : Area) → origin-accepted ox oy ≡ true → spec.reply (InForce area) line ≡ spec.says spec.Origin-set (ox ∷ oy ∷ [])
+  origin-said : (area : Area) → grid-accepted area ≡ true → spec.reply (InForce area) line ≡ spec.origin-reply ox oy
   unfolding spec.reply
-  origin-replied area ok = ap (spec.reply-to (InForce area)) (origin-spelt ox oy line says) ∙ rw ok refl
+  origin-said area on = ap₂ spec.reply-to (in-force area on) (origin-spelt ox oy line says)
 
-  pub origin-refused : (area : Area) → origin-accepted ox oy ≡ false → spec.reply (InForce area) line ≡ spec.says spec.Refused (pos 12 ∷ [])
-  unfolding spec.reply
-  origin-refused area bad = ap (spec.reply-to (InForce area)) (origin-spelt ox oy line says) ∙ rw bad refl
+  pub origin-replied : (area : Area) → grid-accepted area ≡ true
+      → (spec.reply (InForce area) line ≡ spec.says spec.Origin-set (ox ∷ oy ∷ [])) ↔ Origin-within ox oy
+  origin-replied area on = (
+    λ e. origin-exactly ox oy .0 (by (origin-accepted ox oy) (ap mark (sym (origin-said area on) ∙ e))),
+    λ near. origin-said area on ∙ rw (origin-exactly ox oy .1 near) refl,
+  )
+    where
+      by : (t : Bool) → mark (cond t (spec.says spec.Origin-set (ox ∷ oy ∷ [])) (spec.refuses OriginLimit)) ≡ 4 → t ≡ true
+      by true e = refl
+      by false e = absurd (omega arith)
+
+  pub origin-refused : (area : Area) → grid-accepted area ≡ true
+      → (spec.reply (InForce area) line ≡ spec.says spec.Refused (pos 12 ∷ [])) ↔ Origin-beyond ox oy
+  origin-refused area on = (
+    λ e. origin-mean ox oy .if-false .0 (by (origin-accepted ox oy) (ap mark (sym (origin-said area on) ∙ e))),
+    λ far. origin-said area on ∙ rw (origin-mean ox oy .if-false .1 far) refl,
+  )
+    where
+      by : (t : Bool) → mark (cond t (spec.says spec.Origin-set (ox ∷ oy ∷ [])) (spec.refuses OriginLimit)) ≡ 3 → t ≡ false
+      by false e = refl
+      by true e = absurd (omega arith)
 
   pub origin-without-area : spec.reply NoArea line ≡ spec.says spec.Refused (pos 7 ∷ [])
   unfolding spec.reply
@@ -74,26 +108,30 @@ module _ (ox oy : ℤ) (line : List ℕ) (says : Says-two Spelt-signed ORIGIN ox
 -- "AREA w h n fx fy (n squares, finish square)", whatever was in force; 1 for two numbers that are no area, and 13 for too many squares. "AREA lines print the
 -- new value": the square of number w·h - 1, at origin 0 0.
 module _ (clerk : Clerk) (w h : ℕ) (line : List ℕ) (says : Says-two Spelt AREA w h line) where
+  said : spec.reply clerk line ≡ spec.from-call spec.Area-set (pos w ∷ pos h ∷ pos (w * h) ∷ []) (finish-square-at (at-post w h))
+  unfolding spec.reply
+  said = ap (spec.reply-to (spec.counted clerk)) (area-spelt w h line says)
+
   pub area-replied : accepted w h ≡ true
       → spec.reply clerk line
       ≡ spec.says spec.Area-set
       (pos w ∷ pos h ∷ pos (w * h) ∷ pos (square-of (whole w h) (w * h - 1) .x) ∷ pos (square-of (whole w h) (w * h - 1) .y) ∷ [])
-  unfolding spec.reply finish-square in-signs
-  area-replied ok =
-      ap (spec.reply-to clerk) (area-spelt w h line says)
-      ∙ ap (spec.from-call spec.Area-set (pos w ∷ pos h ∷ pos (w * h) ∷ [])) (finish-as-before w h)
-      ∙ rw ok refl
+  area-replied ok = said ∙ ap (spec.from-call spec.Area-set (pos w ∷ pos h ∷ pos (w * h) ∷ [])) (finish-at-post w h ok)
 
-  refused-by : accepted w h ≡ false → spec.reply clerk line ≡ spec.refuses (area-refusal w h)
-  unfolding spec.reply finish-square
-  refused-by bad =
-      ap (spec.reply-to clerk) (area-spelt w h line says)
-      ∙ ap (spec.from-call spec.Area-set (pos w ∷ pos h ∷ pos (w * h) ∷ [])) (finish-as-before w h)
-      ∙ rw (bad, refusal-not-0 (area-refusal w h)) refl
+  refused-with : (n : ℕ) → (n ≡ 0 → ⊥) → (spec.reply clerk line ≡ spec.says spec.Refused (pos n ∷ [])) ↔ (finish-square-at (at-post w h) .refusal ≡ n)
+  refused-with n some =
+      let law = call-refused-exactly spec.Area-set (pos w ∷ pos h ∷ pos (w * h) ∷ []) (finish-square-at (at-post w h)) (λ z. omega arith) n some in
+      (λ e. law .0 (sym said ∙ e), λ e. said ∙ law .1 e)
 
-  pub area-refused : lengths-accepted w h ≡ false → spec.reply clerk line ≡ spec.says spec.Refused (pos 1 ∷ [])
-  area-refused bad = refused-by (lengths-refused w h bad) ∙ ap (λ n. spec.says spec.Refused (pos n ∷ [])) (area-refused-1 w h bad)
+  pub area-refused : (spec.reply clerk line ≡ spec.says spec.Refused (pos 1 ∷ [])) ↔ Lengths-beyond w h
+  area-refused =
+      let law = refused-with 1 (λ z. omega arith) in
+      let why = finish-refused-1 (at-post w h) in
+      (λ e. why .0 (law .0 e), λ p. law .1 (why .1 p))
 
   -- Order 7: "Refusals: 13, directly after 1", for two lengths within the limit.
-  pub squares-refused-13 : lengths-accepted w h ≡ true → most-squares < w * h → spec.reply clerk line ≡ spec.says spec.Refused (pos 13 ∷ [])
-  squares-refused-13 ok more = refused-by (squares-refused w h more) ∙ ap (λ n. spec.says spec.Refused (pos n ∷ [])) (area-refused-13 w h ok)
+  pub squares-refused-13 : (spec.reply clerk line ≡ spec.says spec.Refused (pos 13 ∷ [])) ↔ (Lengths-within w h × Squares-beyond w h)
+  squares-refused-13 =
+      let law = refused-with 13 (λ z. omega arith) in
+      let why = finish-refused-13 (at-post w h) in
+      (λ e. why .0 (law .0 e), λ p. law .1 (why .1 p))

@@ -1,21 +1,25 @@
 -- The documents' sentences on the area in force and its origin, for every clerk and every line: which lines set them, which clear the area, and that no other
 -- alters it. A line says what it asks, so that no N or S line begins with AREA or ORIGIN, and every line that asks for one of these begins with it.
-use mathlib.Core.Bool.{Bool, true, false, cond, _||_, or-true}
+use mathlib.Core.Bool.{Bool, true, false, cond, _||_, or-true, true≢false}
 use mathlib.Core.List.{List, [], _∷_, _++_}
 use mathlib.Core.Logic.{_⊎_, inl, inr}
 use mathlib.Core.Path.{_≡_, refl, sym, ap, ap₂, _∙_}
-use Prim.Native.Nat.{ℕ, _*_}
+use Prim.Native.Nat.{ℕ, _-_, _*_}
 use native.Mathlib.Omega.{arith}
+use borrow.Author.Tests.{ne-eqb}
 use lib.Dec.{eqb, lit<}
 use lib.IntN.{ℤ, pos, natAbs}
 use lib.ListN.{getD, take}
 use lib.Seq.{getD-take}
 use Rattle.terms.specs.declared.Area.{Area}
 use Rattle.terms.specs.declared.Refusal.the-variants.{OriginLimit}
-use Rattle.terms.specs.Terms.{accepted, area-refusal, SignedFigures, in-signs, signed, origin-accepted, at-post}
-use Rattle.curve.specs.Lookups.{finish-square}
-use Rattle.curve.specs.Grid.{number-to-square-at, square-to-number-at, finish-square-at}
-use Rattle.curve.proofs.Calls.{finish-as-before}
+use Rattle.terms.specs.Terms.{accepted, SignedFigures, signed, origin-accepted, at-post, grid-accepted}
+use Rattle.curve.specs.Lookups.{number-to-square-at, square-to-number-at, finish-square-at}
+use Rattle.curve.proofs.Moved.{finish-at-post}
+use Rattle.curve.proofs.Refused.{finish-answered}
+use Rattle.division.specs.Division.{whole, square-of}
+use Rattle.terms.proofs.Limits.{both-accepted}
+use Rattle.terms.proofs.Meanings.{lengths-exactly, squares-exactly}
 use Rattle.lines.specs.declared.Request.{Request}
 use Rattle.lines.specs.declared.Request as Requests
 use Rattle.lines.specs.declared.Request.the-variants.{SetArea, SetOrigin, AskNumber, AskSquare}
@@ -27,6 +31,7 @@ use Rattle.clerk.specs.declared.Clerk.{Clerk}
 use Rattle.clerk.specs.declared.Clerk.the-variants.{NoArea, InForce}
 use Rattle.clerk.specs.Clerk as spec
 use Rattle.clerk.proofs.Handling.{nth-number, word-mark, mark, call-refused}
+use Rattle.clerk.proofs.InForce.{in-force, was-in-force}
 
 -- a reply with another word
 call-other : (word : spec.Word) (f : SignedFigures) (b : Bool) (other : ℕ) → (word-mark word ≡ other → ⊥) → (3 ≡ other → ⊥)
@@ -43,17 +48,19 @@ under-other (InForce area) word f other n m e = call-other word (f area) (eqb (f
 abbrev to-area : ℕ → ℕ → spec.Said
 to-area w h = spec.from-call spec.Area-set (pos w ∷ pos h ∷ pos (w * h) ∷ []) (finish-square-at (at-post w h))
 
-as-before : (w h : ℕ) → to-area w h ≡ spec.from-call spec.Area-set (pos w ∷ pos h ∷ pos (w * h) ∷ []) (signed (finish-square w h))
-as-before w h = ap (spec.from-call spec.Area-set (pos w ∷ pos h ∷ pos (w * h) ∷ [])) (finish-as-before w h)
-
 module _ (w h : ℕ) where
-  to-an-area : accepted w h ≡ true → to-area w h ≡ spec.says spec.Area-set (pos w ∷ pos h ∷ pos (w * h) ∷ in-signs (finish-square w h .values))
-  unfolding finish-square
-  to-an-area ok = as-before w h ∙ rw ok refl
+  to-an-area : accepted w h ≡ true →
+      let s = square-of (whole w h) (w * h - 1) in
+      to-area w h ≡ spec.says spec.Area-set (pos w ∷ pos h ∷ pos (w * h) ∷ pos (s .x) ∷ pos (s .y) ∷ [])
+  to-an-area ok = ap (spec.from-call spec.Area-set (pos w ∷ pos h ∷ pos (w * h) ∷ [])) (finish-at-post w h ok)
 
-  to-no-area : accepted w h ≡ false → to-area w h ≡ spec.refuses (area-refusal w h)
-  unfolding finish-square
-  to-no-area bad = as-before w h ∙ rw bad (sym (call-refused spec.Area-set (pos w ∷ pos h ∷ pos (w * h) ∷ []) (area-refusal w h) 2))
+  to-no-area : accepted w h ≡ false → to-area w h .word ≡ spec.Refused
+  to-no-area bad = rw (ne-eqb (finish-square-at (at-post w h) .refusal) 0 (λ e. true≢false (sym (found e) ∙ bad))) refl
+    where
+      found : finish-square-at (at-post w h) .refusal ≡ 0 → accepted w h ≡ true
+      found e =
+          let told = finish-answered (at-post w h) .0 e in
+          both-accepted w h (lengths-exactly w h .1 (told .0)) (squares-exactly w h .1 (told .1 .0))
 
   set-there : accepted w h ≡ true → spec.clerk-under (at-post w h) ≡ InForce (at-post w h)
   unfolding origin-accepted
@@ -74,7 +81,7 @@ module _ (w h : ℕ) where
     where
       by : (t : Bool) → accepted w h ≡ t → accepted w h ≡ true
       by true p = p
-      by false p = absurd (n (ap (λ s. s .word) (to-no-area p)))
+      by false p = absurd (n (to-no-area p))
 
 -- what is said to an ORIGIN line, by whether its origin is accepted
 module _ (ox oy : ℤ) where
@@ -107,7 +114,7 @@ module _ (v u w h : ℕ) (rest : List ℤ) (e : to-area v u ≡ spec.says spec.A
       let same = sym (to-an-area v u ok) ∙ e in
       set-there v u ok ∙ ap₂ (λ w h. InForce (at-post w h)) (ap (λ s. natAbs (nth-number 0 s)) same) (ap (λ s. natAbs (nth-number 1 s)) same)
   set-by false bad =
-      let is : mark (to-area v u) ≡ 3 = ap mark (to-no-area v u bad) in
+      let is : mark (to-area v u) ≡ 3 = ap word-mark (to-no-area v u bad) in
       let other : mark (to-area v u) ≡ 0 = ap mark e in
       absurd (omega arith)
 
@@ -129,7 +136,7 @@ left-set clerk begins (Requests.the-variants.Refused r) w h rest e = let other :
 pub set-in-force : (clerk : Clerk) (line : List ℕ) (w h : ℕ) (rest : List ℤ) → spec.reply clerk line ≡ spec.says spec.Area-set (pos w ∷ pos h ∷ rest)
     → spec.after clerk line ≡ InForce (at-post w h)
 unfolding spec.reply spec.after
-set-in-force clerk line w h rest e = left-set clerk (begins-setting line) (request line) w h rest e
+set-in-force clerk line w h rest e = left-set (spec.counted clerk) (begins-setting line) (request line) w h rest e
 
 -- An accepted AREA line: it says AREA and two numbers, which are an area within the limit, and sets that at origin 0 0.
 pub record Sets (clerk : Clerk) (line : List ℕ) : Type 0 where
@@ -179,10 +186,10 @@ module _ (clerk : Clerk) (line : List ℕ) where
 
   -- "A refused line whose first four bytes are AREA leaves no area in force, for any reason of refusal", and "a refused line that begins with the bytes
   -- `ORIGIN` leaves no area in force".
-  refused-by : (q : Request) → Says q line → Begun line → spec.reply-to clerk q .word ≡ spec.Refused
-      → spec.clerk-after clerk (begins-setting line) q ≡ NoArea
+  refused-by : (q : Request) → Says q line → Begun line → spec.reply-to (spec.counted clerk) q .word ≡ spec.Refused
+      → spec.clerk-after (spec.counted clerk) (begins-setting line) q ≡ NoArea
   refused-by (SetArea w h) b begun e = set-none w h (refused-set w h e)
-  refused-by (SetOrigin ox oy) b begun e = by clerk e
+  refused-by (SetOrigin ox oy) b begun e = by (spec.counted clerk) e
     where
       by : (clerk : Clerk) → spec.reply-to clerk (SetOrigin ox oy) .word ≡ spec.Refused → spec.with-origin clerk ox oy ≡ NoArea
       by NoArea e = refl
@@ -195,24 +202,25 @@ module _ (clerk : Clerk) (line : List ℕ) where
   unfolding spec.reply spec.after
   refused-leaves-none = refused-by (request line) (says-so line)
 
-  -- "No other line alters the area": a line that does not begin so leaves the clerk as it was, area and origin.
-  other-by : (q : Request) → Says q line → (Begun line → ⊥) → spec.clerk-after clerk (begins-setting line) q ≡ clerk
+  -- "No other line alters the area": a line that does not begin so leaves the clerk as it was, area and origin, or as it counted.
+  other-by : (q : Request) → Says q line → (Begun line → ⊥) → spec.clerk-after (spec.counted clerk) (begins-setting line) q ≡ spec.counted clerk
   other-by (SetArea w h) b other = absurd (other (inl (ap (take 4) (b .is))))
   other-by (SetOrigin ox oy) b other = absurd (other (inr (ap (take 6) (b .is))))
   other-by (AskNumber i) b other = refl
   other-by (AskSquare x y) b other = refl
   other-by (Requests.the-variants.Refused r) b other = rw (begins-not other) refl
 
-  pub others-alter-nothing : (Begun line → ⊥) → spec.after clerk line ≡ clerk
+  pub others-alter-nothing : (Begun line → ⊥) → spec.after clerk line ≡ spec.counted clerk
   unfolding spec.after
   others-alter-nothing = other-by (request line) (says-so line)
 
   -- "An accepted AREA line sets the area for the lines below it": a line that begins so and is not refused sets exactly the area that it says.
-  accepted-by : (q : Request) → request line ≡ q → Says q line → take 4 line ≡ AREA → (spec.reply-to clerk q .word ≡ spec.Refused → ⊥) → Sets clerk line
+  accepted-by : (q : Request) → request line ≡ q → Says q line → take 4 line ≡ AREA → (spec.reply-to (spec.counted clerk) q .word ≡ spec.Refused → ⊥)
+      → Sets clerk line
   unfolding spec.after
   accepted-by (SetArea w h) is b area e =
       let ok = answered-set w h e in
-      record { w = w; h = h; says = b; within = ok; set = ap (spec.clerk-after clerk (begins-setting line)) is ∙ set-there w h ok }
+      record { w = w; h = h; says = b; within = ok; set = ap (spec.clerk-after (spec.counted clerk) (begins-setting line)) is ∙ set-there w h ok }
   accepted-by (SetOrigin ox oy) is b area e = absurd (other-letter line _ (λ z. omega arith) (b .is) area)
   accepted-by (AskNumber i) is b area e = absurd (other-letter line _ (λ z. omega arith) (b .is) area)
   accepted-by (AskSquare x y) is b area e = absurd (other-letter line _ (λ z. omega arith) (b .is) area)
@@ -223,18 +231,18 @@ module _ (clerk : Clerk) (line : List ℕ) where
   accepted-sets = accepted-by (request line) refl (says-so line)
 
   -- "an origin (ox, oy) .., set by a line `ORIGIN ox oy`": a line that begins so and is not refused sets exactly the origin that it says.
-  origin-by : (q : Request) → request line ≡ q → Says q line → take 6 line ≡ ORIGIN → (spec.reply-to clerk q .word ≡ spec.Refused → ⊥)
+  origin-by : (q : Request) → request line ≡ q → Says q line → take 6 line ≡ ORIGIN → (spec.reply-to (spec.counted clerk) q .word ≡ spec.Refused → ⊥)
       → Sets-origin clerk line
   unfolding spec.after
-  origin-by (SetOrigin ox oy) is b word e = by clerk refl e
+  origin-by (SetOrigin ox oy) is b word e = by (spec.counted clerk) refl e
     where
-      by : (held : Clerk) → clerk ≡ held → (spec.reply-to held (SetOrigin ox oy) .word ≡ spec.Refused → ⊥) → Sets-origin clerk line
+      by : (held : Clerk) → spec.counted clerk ≡ held → (spec.reply-to held (SetOrigin ox oy) .word ≡ spec.Refused → ⊥) → Sets-origin clerk line
       by NoArea was e = absurd (e refl)
       by (InForce area) was e =
           let ok = answered-origin ox oy e in
           record {
             area = area;
-            was = was;
+            was = was-in-force clerk area was;
             ox = ox;
             oy = oy;
             says = b;
@@ -254,10 +262,11 @@ module _ (clerk : Clerk) (line : List ℕ) where
 pub area-line-sets : (clerk : Clerk) (w h : ℕ) → accepted w h ≡ true → (line : List ℕ) → Says-two Spelt AREA w h line
     → spec.after clerk line ≡ InForce (at-post w h)
 unfolding spec.after
-area-line-sets clerk w h ok line says = ap (spec.clerk-after clerk (begins-setting line)) (area-spelt w h line says) ∙ set-there w h ok
+area-line-sets clerk w h ok line says = ap (spec.clerk-after (spec.counted clerk) (begins-setting line)) (area-spelt w h line says) ∙ set-there w h ok
 
 -- And the line `ORIGIN ox oy` of every origin within the range sets that, whatever the origin was: it does not add.
-pub origin-line-sets : (area : Area) (ox oy : ℤ) → origin-accepted ox oy ≡ true → (line : List ℕ) → Says-two Spelt-signed ORIGIN ox oy line
-    → spec.after (InForce area) line ≡ InForce (moved-to area ox oy)
+pub origin-line-sets : (area : Area) → grid-accepted area ≡ true → (ox oy : ℤ) → origin-accepted ox oy ≡ true → (line : List ℕ)
+    → Says-two Spelt-signed ORIGIN ox oy line → spec.after (InForce area) line ≡ InForce (moved-to area ox oy)
 unfolding spec.after
-origin-line-sets area ox oy ok line says = ap (spec.clerk-after (InForce area) (begins-setting line)) (origin-spelt ox oy line says) ∙ rw ok refl
+origin-line-sets area on ox oy ok line says =
+    ap₂ (λ held q. spec.clerk-after held (begins-setting line) q) (in-force area on) (origin-spelt ox oy line says) ∙ rw ok refl

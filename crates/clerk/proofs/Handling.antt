@@ -1,19 +1,22 @@
 -- A reply from a library call's figures, and the clerk after a line.
-use mathlib.Core.Bool.{Bool, true, false}
-use mathlib.Core.List.{List, [], _∷_}
+use mathlib.Core.Bool.{Bool, true, false, cond}
+use mathlib.Core.List.{List, [], _∷_, _++_}
+use mathlib.Core.Logic.{_↔_}
 use mathlib.Core.Path.{_≡_, refl, sym, ap, _∙_}
 use Prim.Native.Nat.{ℕ, _*_, _<_}
 use types.Run.{OneOf, miss}
 use denote.Enum.Declared.{tagOf}
+use native.Mathlib.Omega.{arith}
 use borrow.Author.Tests.{ne-eqb}
-use lib.IntN.{ℤ, pos}
+use lib.Dec.{eqb}
+use lib.IntN.{ℤ, pos, natAbs}
 use lib.ListN.{getD}
 use Rattle.terms.specs.declared.Refusal.{Refusal}
-use Rattle.terms.specs.Terms.{past-32-bits, accepted, area-refusal, refusal-number, signed, refused, at-post}
-use Rattle.terms.proofs.Laws.{squares-limit, refusal-some}
-use Rattle.curve.specs.Lookups.{finish-square}
-use Rattle.curve.specs.Grid.{finish-square-at}
-use Rattle.curve.proofs.Calls.{finish-found-at, finish-as-before}
+use Rattle.terms.specs.Terms.{past-32-bits, refusal-number, SignedFigures, signed, refused, at-post}
+use Rattle.terms.proofs.Refusals.{refusal-some}
+use Rattle.curve.specs.Lookups.{finish-square-at}
+use Rattle.curve.proofs.Finish.{finish-found-at}
+use Rattle.curve.proofs.Refused.{finish-answered}
 use Rattle.lines.specs.declared.Request.{Request}
 use Rattle.lines.specs.declared.Request.the-variants.{SetArea, SetOrigin, AskNumber, AskSquare, Refused}
 use Rattle.lines.proofs.Request.{the-type}
@@ -38,16 +41,19 @@ mark s = word-mark (s .word)
 pub call-refused : (word : spec.Word) (first : List ℤ) (r : Refusal) (n : ℕ) → spec.refuses r ≡ spec.from-call word first (signed (refused r n))
 call-refused word first r n = sym (rw (ne-eqb (refusal-number r) 0 (refusal-some r)))
 
+-- a call's reply says REFUSED n exactly if the call is refused with n
+pub call-refused-exactly : (word : spec.Word) (first : List ℤ) (f : SignedFigures) → (word-mark word ≡ 3 → ⊥) → (n : ℕ) → (n ≡ 0 → ⊥)
+    → (spec.from-call word first f ≡ spec.says spec.Refused (pos n ∷ [])) ↔ (f .refusal ≡ n)
+call-refused-exactly word first f other n some = (to (eqb (f .refusal) 0), λ e. rw (ne-eqb (f .refusal) 0 (λ z. some (sym e ∙ z)), e) refl)
+  where
+    to : (t : Bool) → cond t (spec.says word (first ++ f .values)) (spec.says spec.Refused (pos (f .refusal) ∷ [])) ≡ spec.says spec.Refused (pos n ∷ [])
+        → f .refusal ≡ n
+    to true e = absurd (other (ap mark e))
+    to false e = ap (λ s. natAbs (nth-number 0 s)) e
+
 -- a finish square is found under an accepted area, whose squares are a 32-bit number
 pub found-fits : (w h : ℕ) (x y : ℤ) → finish-found-at x y ≡ finish-square-at (at-post w h) → w * h < past-32-bits
-unfolding finish-square
-found-fits w h x y e = by (accepted w h) refl
-  where
-    by : (t : Bool) → accepted w h ≡ t → w * h < past-32-bits
-    by true ok = squares-limit w h ok
-    by false bad =
-        let is : finish-square w h .refusal ≡ refusal-number (area-refusal w h) = rw bad refl in
-        absurd (refusal-some (area-refusal w h) (sym is ∙ sym (ap (λ f. f .refusal) (e ∙ finish-as-before w h))))
+found-fits w h x y e = let few = finish-answered (at-post w h) .0 (ap (λ f. f .refusal) (sym e)) .1 .0 in omega arith
 
 -- the clerk after a refused line, which begins with AREA or ORIGIN or does not, and after one that asks
 module _ (clerk : Clerk) {begins : Bool} {q : Request} {r : Refusal} (is : q ≡ Refused r) where

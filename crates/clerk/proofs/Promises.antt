@@ -12,12 +12,13 @@ use lib.ListN.{length, take, length-take}
 use lib.Seq.{take-take, take-all}
 use Rattle.terms.specs.declared.Area.{Area}
 use Rattle.terms.specs.Terms.{accepted, origin-accepted, at-post}
-use Rattle.terms.proofs.Laws.{named, named-back}
-use Rattle.terms.proofs.Ones.{one-equation, by-figures}
+use Rattle.terms.proofs.Refusals.{named, named-back}
+use Rattle.terms.proofs.OneAnswer.{one-equation, by-figures}
 use Rattle.words.specs.Words.{begins, all-digits, value-on, is-number, numeral, same-bytes}
 use Rattle.words.specs.Letters.{bytes}
 use Rattle.words.specs.Signed.{signed-numeral}
-use Rattle.lines.specs.Lines.{fields, AREA, ORIGIN, shaped, request}
+use Rattle.fields.specs.Fields.{fields}
+use Rattle.lines.specs.Lines.{AREA, ORIGIN, shaped, request}
 use Rattle.clerk.specs.declared.Clerk.{Clerk}
 use Rattle.clerk.specs.declared.Clerk.the-variants.{NoArea, InForce}
 use Rattle.clerk.specs.declared.Handled.{Handled}
@@ -25,6 +26,7 @@ use Rattle.clerk.specs.declared.Reply.{Reply}
 use Rattle.clerk.specs.declared.Reply.the-variants.{AreaSet, OriginSet, Cell, Number, Refused}
 use Rattle.clerk.specs.Clerk as spec
 use Rattle.clerk.proofs.Handling.{nth-number, mark}
+use Rattle.clerk.proofs.InForce.{held}
 
 -- the reply of what is said
 of-said : spec.Said → Reply
@@ -66,13 +68,14 @@ module _ (line : List ℕ) where
 
   pub reply-kept : (clerk : Clerk) → spec.reply clerk (take 65 line) ≡ spec.reply clerk line
   unfolding spec.reply
-  reply-kept clerk = ap (spec.reply-to clerk) request-kept
+  reply-kept clerk = ap (spec.reply-to (spec.counted clerk)) request-kept
 
   pub after-kept : (clerk : Clerk) → spec.after clerk (take 65 line) ≡ spec.after clerk line
   unfolding spec.after
   after-kept clerk =
-      ap₂ (λ first q. spec.clerk-after clerk (same-bytes first AREA || begins (take 65 line) ORIGIN) q) (take-take 4 65 line (lit≤ tt)) request-kept
-      ∙ ap (λ first. spec.clerk-after clerk (begins line AREA || same-bytes first ORIGIN) (request line)) (take-take 6 65 line (lit≤ tt))
+      let held = spec.counted clerk in
+      ap₂ (λ first q. spec.clerk-after held (same-bytes first AREA || begins (take 65 line) ORIGIN) q) (take-take 4 65 line (lit≤ tt)) request-kept
+      ∙ ap (λ first. spec.clerk-after held (begins line AREA || same-bytes first ORIGIN) (request line)) (take-take 6 65 line (lit≤ tt))
 
 -- Turned away: a clerk with one answer for all lines. An empty line is refusal 6, and N 1 with no area 7.
 pub repeats-one-answer : (always : spec.Said) → ((clerk : Clerk) (line : List ℕ) → always ≡ spec.reply clerk line) → ⊥
@@ -81,10 +84,6 @@ repeats-one-answer always promise =
     let six : natAbs (nth-number 0 always) ≡ 6 = ap (λ s. natAbs (nth-number 0 s)) (promise NoArea []) in
     let seven : natAbs (nth-number 0 always) ≡ 7 = ap (λ s. natAbs (nth-number 0 s)) (promise NoArea (bytes "N 1")) in
     omega arith
-
-abbrev held : Clerk → ℕ
-held NoArea = 0
-held (InForce area) = 1
 
 -- Turned away: a clerk that keeps the former area after a refused AREA line, here AREA 0 4.
 pub keeps-the-former : ((clerk : Clerk) (line : List ℕ) → begins line AREA ≡ true → clerk ≡ spec.after clerk line) → ⊥
@@ -95,7 +94,7 @@ keeps-the-former promise =
 
 -- So one that keeps it after a refused ORIGIN line, here ORIGIN 1000001 0, and one whose AREA line keeps the former origin.
 pub keeps-it-at-origin : ((clerk : Clerk) (line : List ℕ) → begins line ORIGIN ≡ true → clerk ≡ spec.after clerk line) → ⊥
-unfolding spec.after request shaped fields same-bytes signed-numeral numeral is-number all-digits value-on origin-accepted
+unfolding spec.after request shaped fields same-bytes signed-numeral numeral is-number all-digits value-on accepted origin-accepted
 keeps-it-at-origin promise =
     let other : _≡_ {A = ℕ} 1 0 = ap held (promise (InForce (at-post 3 4)) (bytes "ORIGIN 1000001 0") refl) in
     omega arith

@@ -7,7 +7,7 @@ use lib.IntN.{ℤ, pos}
 use Rattle.terms.specs.declared.Area.{Area}
 use Rattle.terms.specs.declared.Refusal as Refusals
 use Rattle.terms.specs.Terms.{refusal-number, origin-accepted, at-post, grid-accepted, SignedFigures, signed}
-use Rattle.curve.specs.Grid.{number-to-square-at, square-to-number-at, finish-square-at}
+use Rattle.curve.specs.Lookups.{number-to-square-at, square-to-number-at, finish-square-at}
 use Rattle.lines.specs.declared.Request as Requests
 use Rattle.lines.specs.Lines.{begins-setting, request}
 use Rattle.clerk.specs.declared.Clerk.{Clerk}
@@ -65,6 +65,11 @@ reply-to clerk (Requests.the-variants.Refused r) = refuses r
 abbrev pub clerk-under : Area → Clerk
 clerk-under area = cond (grid-accepted area) (InForce area) NoArea
 
+-- A clerk as it counts. One made by hand may hold an area that is not accepted, or an origin: it counts as one with no area in force, whatever the line.
+abbrev pub counted : Clerk → Clerk
+counted NoArea = NoArea
+counted (InForce area) = clerk-under area
+
 -- Order 6: "an origin (ox, oy) .., set by a line `ORIGIN ox oy`". One that is refused leaves no area in force.
 abbrev pub with-origin : Clerk → (ox oy : ℤ) → Clerk
 with-origin NoArea ox oy = NoArea
@@ -82,7 +87,7 @@ clerk-after clerk begins (Requests.the-variants.AskNumber i) = clerk
 clerk-after clerk begins (Requests.the-variants.AskSquare x y) = clerk
 
 unfoldable pub after : Clerk → List ℕ → Clerk
-after clerk line = clerk-after clerk (begins-setting line) (request line)
+after clerk line = clerk-after (counted clerk) (begins-setting line) (request line)
 
 unfoldable pub reply : Clerk → List ℕ → Said
-reply clerk line = reply-to clerk (request line)
+reply clerk line = reply-to (counted clerk) (request line)

@@ -9,17 +9,17 @@ use Prim.Native.String.{String}
 use lib.Dec.{T, eqb}
 use lib.IntN.{ℤ, pos, negsuc}
 use lib.ListN.{replicate, take}
-use Rattle.terms.specs.Terms.{accepted, area-refusal, origin-accepted, in-signs}
+use Rattle.terms.specs.Terms.{accepted, origin-accepted, in-signs}
 use Rattle.terms.specs.Comparing.{same-integer, same-integers}
 use Rattle.division.specs.Division.{whole, choice, even-half, part, parts, parts-of, moved, against, row, curve-by, down, curve, square-of, number-of}
 use Rattle.division.specs.Division.{blocks, blocks-holding, count, place-in, same, within}
 use Rattle.division.specs.Division as Division
-use Rattle.curve.specs.Lookups.{number-to-square, square-to-number, finish-square}
-use Rattle.curve.specs.Grid.{from-origin, number-to-square-at, square-to-number-at, finish-square-at}
+use Rattle.curve.specs.Lookups.{from-origin, number-to-square-at, square-to-number-at, finish-square-at}
 use Rattle.words.specs.Letters.{bytes}
 use Rattle.words.specs.Words.{all-digits, value-on, is-number, numeral, same-bytes}
 use Rattle.words.specs.Signed.{signed-numeral}
-use Rattle.lines.specs.Lines.{fields, shaped, request}
+use Rattle.fields.specs.Fields.{fields}
+use Rattle.lines.specs.Lines.{shaped, request}
 use Rattle.clerk.specs.declared.Clerk.{Clerk}
 use Rattle.clerk.specs.declared.Clerk.the-variants.{NoArea, InForce}
 use Rattle.clerk.specs.Clerk.{Word, Area-set, Origin-set, Cell, Number, Refused, Said, after, reply}
@@ -42,6 +42,8 @@ pub data Case : Type 0 where
   places : String → (ox oy : ℤ) → Case
   -- under 3 by 4 a line is answered by this word with these numbers, and that area stays in force
   answers : String → Word → List ℤ → Case
+  -- under an area that is not accepted, or whose origin is not, held by a clerk made by hand, a line is refused so, and none is in force after it
+  by-hand : (w h : ℕ) (ox oy : ℤ) → String → (refusal : ℕ) → Case
 
 -- (`negsuc n` is the integer -(n + 1).)
 three-by-four : Clerk
@@ -93,13 +95,16 @@ right (sets-large line w h squares) = sets-so line w h (take 3) (pos w ∷ pos h
 right (long-stays line r) = is-refusal r (reply three-by-four line) && kept (after three-by-four line)
 right (long-clears line r) = is-refusal r (reply three-by-four line) && holds-none (after three-by-four line)
 right (answers line word numbers) = has-said word (λ all. all) numbers (reply three-by-four (bytes line)) && kept (after three-by-four (bytes line))
+right (by-hand w h ox oy line r) =
+    let clerk = InForce (record { w = w; h = h; ox = ox; oy = oy }) in
+    is-refusal r (reply clerk (bytes line)) && holds-none (after clerk (bytes line))
 right (places line ox oy) =
     has-said Origin-set (λ numbers. numbers) (ox ∷ oy ∷ []) (reply three-by-four (bytes line)) && holds 3 4 ox oy (after three-by-four (bytes line))
 
 pub all-right : List Case → Bool
-unfolding right accepted area-refusal origin-accepted in-signs from-origin number-to-square-at square-to-number-at finish-square-at number-to-square
-    square-to-number finish-square square-of number-of place-in same blocks blocks-holding count within Division.holds curve down parts parts-of part choice
-    even-half whole moved against row curve-by mathlib.Core.List.flatten
+unfolding right accepted origin-accepted in-signs from-origin number-to-square-at square-to-number-at finish-square-at square-of number-of place-in same
+    blocks blocks-holding count within Division.holds curve down parts parts-of part choice even-half whole moved against row curve-by
+    mathlib.Core.List.flatten
 all-right [] = true
 all-right (c ∷ cs) = right c && all-right cs
 
@@ -270,6 +275,13 @@ worked =
     -- "Squares asked and answered .. are then signed and origin plus the old square": number 8 is the old square (2, 1), held by 3 blocks
     ∷ answers "N 8" Cell (pos 0 ∷ pos 8 ∷ pos 3 ∷ [])
     ∷ answers "S 0 8" Number (pos 8 ∷ pos 3 ∷ [])
+    -- an area that is none is not in force: 7 for every line that asks for one, after 6 and 5
+    ∷ by-hand 0 4 (pos 0) (pos 0) "N 1" 7
+    ∷ by-hand 0 4 (pos 0) (pos 0) "ORIGIN 1 2" 7
+    ∷ by-hand 4096 4097 (pos 0) (pos 0) "S 0 0" 7
+    ∷ by-hand 3 4 (pos 1000001) (pos 0) "N 8" 7
+    ∷ by-hand 3 4 (pos 0) (negsuc 1000000) "ORIGIN 0 0" 7
+    ∷ by-hand 3 4 (pos 1000001) (pos 0) "N x" 5
     ∷ []
 
 pub worked-right : T (all-right worked)

@@ -3,6 +3,7 @@ use curve::FinishAnswer;
 use curve::NumberAnswer;
 use curve::SquareAnswer;
 use lines::Request;
+use terms::Admission;
 use terms::Area;
 use terms::Refusal;
 ghost use mathlib.Core.List.{[], _∷_};
@@ -11,9 +12,9 @@ ghost use Prim.Native.Nat.{_*_};
 ghost use lib.IntN.{pos};
 ghost use Rattle.terms.specs.Terms.{at-post, signed};
 ghost use Rattle.lines.specs.Lines.{begins-setting};
-ghost use Rattle.curve.specs.Grid.{number-to-square-at, square-to-number-at, finish-square-at};
+ghost use Rattle.curve.specs.Lookups.{number-to-square-at, square-to-number-at, finish-square-at};
 ghost use Rattle.clerk.specs.Clerk.{Area-set, Cell, Number, said, from-call, origin-reply, reply-to};
-ghost use Rattle.clerk.specs.Clerk.{clerk-under, with-origin, clerk-after, after, reply};
+ghost use Rattle.clerk.specs.Clerk.{clerk-under, counted, with-origin, clerk-after, after, reply};
 
 // The area in force with its origin, if there is one.
 pub enum Clerk {
@@ -131,10 +132,20 @@ fn reply_to(clerk: Clerk, asked: Request) -> Reply
 pub fn clerk_under(area: Area) -> Clerk
     ensures { λ r. ⌜ r ≡ clerk-under area ⌝ }
 {
-    if terms::accepts_grid(area) {
-        return Clerk::InForce(area);
+    match terms::admit_grid(area) {
+        Admission::Granted => Clerk::InForce(area),
+        Admission::Refused(_) => Clerk::NoArea,
     }
-    Clerk::NoArea
+}
+
+// The clerk as it counts: one made by hand may hold an area that is not accepted.
+fn counted(clerk: Clerk) -> Clerk
+    ensures { λ r. ⌜ r ≡ counted clerk ⌝ }
+{
+    match clerk {
+        Clerk::NoArea => Clerk::NoArea,
+        Clerk::InForce(area) => clerk_under(area),
+    }
 }
 
 // The clerk after an ORIGIN line, which sets the origin or leaves no area.
@@ -180,9 +191,10 @@ impl Clerk {
         ensures clerk { λ r. ⌜ r .clerk ≡ after self (now (line .entry)) ⌝ }
         ensures reply { λ r. ⌜ said (r .reply) ≡ reply self (now (line .entry)) ⌝ }
     {
+        let before = counted(self);
         let asked = lines::request_of(line);
-        let reply = reply_to(self, asked);
-        let clerk = clerk_after(self, line, asked);
+        let reply = reply_to(before, asked);
+        let clerk = clerk_after(before, line, asked);
         Handled {
             clerk: clerk,
             reply: reply,

@@ -12,9 +12,11 @@ use Rattle.terms.specs.Terms.{past-32-bits}
 use Rattle.division.specs.Division.{Square, square, Direction, Block, whole, moved, against, curve, blocks, square-of}
 use Rattle.division.specs.Division.Inside.{Paired, x-y, y-x, x-y-back, y-x-back, Room, Inside}
 use Rattle.division.proofs.Plane.{moved-none}
-use Rattle.division.proofs.Once.{length-curve, square-held}
+use Rattle.division.proofs.EachSquareOnce.{length-curve, square-held}
 use Rattle.division.proofs.Blocks.{whole-inside}
-use Rattle.division.proofs.Local.{spot, Within, spot-inside, whole-within, getD-map-in, square-alike, count-alike}
+use Rattle.division.proofs.Coordinates.{spot, Within, spot-inside, whole-within}
+use Rattle.division.proofs.SameLengths.{square-alike, count-alike}
+use Rattle.division.proofs.Places.{getD-map-in}
 use Rattle.leaves.specs.Walk.{place, over, enter-one, filled-with}
 use Rattle.leaves.proofs.Entries.{place-below, squares-fit}
 use Rattle.copies.specs.Copies.{image, facing, copied, Agree, Held, Again}

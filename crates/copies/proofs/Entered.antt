@@ -14,7 +14,7 @@ use lib.ListN.{length, getD, take, drop, set, length-set, length-drop, length-ma
 use lib.Seq.{length-take-le, take-suc, take-add, take-at, drop-at, take-set-le, drop-set-lt, take-suc-set, getD-take, getD-drop, ext-getD}
 use Rattle.division.specs.Division.{Block, curve}
 use Rattle.division.specs.Division.Inside.{Sized}
-use Rattle.division.proofs.Once.{length-curve}
+use Rattle.division.proofs.EachSquareOnce.{length-curve}
 use Rattle.leaves.specs.Walk.{place, over, enter-one, filled-with, Fits}
 use Rattle.leaves.proofs.Entries.{enter-length, over-append}
 use Rattle.copies.specs.Copies.{image, copied, Agree, Tells, Held}

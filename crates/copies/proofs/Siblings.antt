@@ -11,7 +11,7 @@ use Rattle.division.specs.Division.{Block, against, even-half, First, Second, A
 use Rattle.division.specs.Forms.{block}
 use Rattle.division.proofs.Rules.{halves}
 use Rattle.division.proofs.Cases.{long-lengths}
-use Rattle.leaves.proofs.Parts.{Cut, first-call, second-call, a-call, c-call}
+use Rattle.leaves.proofs.PartByPart.{Cut, first-call, second-call, a-call, c-call}
 use Rattle.copies.specs.Copies.{Held, Again}
 
 -- the long cut's first part is no longer than the run

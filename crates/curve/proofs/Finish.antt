@@ -8,18 +8,25 @@ use native.Mathlib.Nat.{add-sub-of-le, mul-le-mul}
 use native.Mathlib.Omega.{arith}
 use borrow.Author.Tests.{eqb-true, eqb-false}
 use lib.Dec.{eqb}
-use Rattle.terms.specs.Terms.{accepted, answered}
-use Rattle.terms.proofs.Laws.{limits, figure}
+use lib.IntN.{ℤ, pos, _+ℤ_, _-ℤ_}
+use lib.Signed.{mag}
+use Rattle.terms.specs.declared.Area.{Area}
+use Rattle.terms.specs.Terms.{grid-accepted, SignedFigures, in-signs}
+use Rattle.terms.proofs.Limits.{Limits, limits, grid-guards-passed, grid-passed}
+use Rattle.terms.proofs.Guards.{_and_, answered-so}
+use Rattle.terms.proofs.Refusals.{signed-figure}
+use Rattle.terms.proofs.Signs.{added-off}
 use Rattle.division.specs.declared.Choice.the-variants.{LongCut, UCut}
 use Rattle.division.specs.Division.{Square, square, Block, whole, even-half, First, Second, A, B, C, part, parts, parts-of, square-of}
 use Rattle.division.specs.Division.Inside.{Sized}
 use Rattle.division.proofs.Rules.{All, Chosen, is-run, is-side, is-long, is-u, chosen, halves, parts-are}
 use Rattle.division.proofs.Cases.{induction}
 use Rattle.division.proofs.Cuts.{long-areas, u-areas}
-use Rattle.division.proofs.Local.{seen-from, squares-of}
-use Rattle.division.proofs.Squares.{area-at-part, area-run-at, area-side-at}
-use Rattle.division.proofs.Walks.{half-small, half-large}
-use Rattle.curve.specs.Lookups.{finish-square}
+use Rattle.division.proofs.Coordinates.{seen-from}
+use Rattle.division.proofs.PartHolding.{squares-of}
+use Rattle.division.proofs.SquareOfNumber.{area-at-part, area-run-at, area-side-at}
+use Rattle.division.proofs.EvenHalf.{half-small, half-large}
+use Rattle.curve.specs.Lookups.{all, from-origin, finish-guards, finish-square-at}
 
 -- the three ways: up along a width of 1, one short of the corner, and at the corner
 pub data Ends (a b x y : ℕ) : Type 0 where
@@ -173,18 +180,22 @@ pub data Elsewhere (w h : ℕ) : Type 0 where
   narrow : w ≡ 1 → 1 < h → Elsewhere w h
   low : 3 ≤ w → w % 2 ≡ 1 → h ≡ 2 → Elsewhere w h
 
--- Document 02's sentences on the finish square of an area. The header and the bindings say the same.
-pub record Finish (w h : ℕ) : Type 0 where
+-- The figures of a finish square that is found.
+abbrev pub finish-found-at : (x y : ℤ) → SignedFigures
+finish-found-at x y = record { refusal = 0; values = x ∷ y ∷ [] }
+
+-- Document 02's sentences on the finish square of an area, moved by its origin. The header and the bindings say the same.
+pub record Finish (area : Area) : Type 0 where
   -- "The finish square becomes the square of number w·h - 1."
-  pub last : finish-square w h ≡ answered (square-of (whole w h) (w * h - 1) .x ∷ square-of (whole w h) (w * h - 1) .y ∷ [])
+  pub last : let s = square-of (all area) (area .w * area .h - 1) in finish-square-at area ≡ finish-found-at (area .ox +ℤ pos (s .x)) (area .oy +ℤ pos (s .y))
   -- "for width 1 with height above 1, where it is (0, h - 1)"
-  pub of-narrow : w ≡ 1 → 1 < h → finish-square w h ≡ answered (0 ∷ (h - 1) ∷ [])
+  pub of-narrow : area .w ≡ 1 → 1 < area .h → finish-square-at area ≡ finish-found-at (area .ox +ℤ pos 0) (area .oy +ℤ pos (area .h - 1))
   -- "and for odd width of 3 or more with height 2, where it is (w - 2, 0)"
-  pub of-low : 3 ≤ w → w % 2 ≡ 1 → h ≡ 2 → finish-square w h ≡ answered ((w - 2) ∷ 0 ∷ [])
+  pub of-low : 3 ≤ area .w → area .w % 2 ≡ 1 → area .h ≡ 2 → finish-square-at area ≡ finish-found-at (area .ox +ℤ pos (area .w - 2)) (area .oy +ℤ pos 0)
   -- "It differs from (w - 1, 0) for" both,
-  pub differs : Elsewhere w h → finish-square w h ≡ answered ((w - 1) ∷ 0 ∷ []) → ⊥
+  pub differs : Elsewhere (area .w) (area .h) → finish-square-at area ≡ finish-found-at (area .ox +ℤ pos (area .w - 1)) (area .oy +ℤ pos 0) → ⊥
   -- and "it differs nowhere else".
-  pub nowhere-else : (Elsewhere w h → ⊥) → finish-square w h ≡ answered ((w - 1) ∷ 0 ∷ [])
+  pub nowhere-else : (Elsewhere (area .w) (area .h) → ⊥) → finish-square-at area ≡ finish-found-at (area .ox +ℤ pos (area .w - 1)) (area .oy +ℤ pos 0)
 
 -- a square at which an area ends is (w - 1, 0) in every area but those
 module _ (w h x y : ℕ) where
@@ -204,26 +215,43 @@ module _ (w h x y : ℕ) where
   at-corner least (short two three odd p q) not = absurd (not (low three odd two))
   at-corner least (corner more even p q) not = (omega arith, q)
 
--- The finish square of every accepted area is as document 02 says.
-module _ (w h : ℕ) (yes : accepted w h ≡ true) where
-  pub finish-found : (x y : ℕ) → Ends w h x y → answered (x ∷ y ∷ []) ≡ finish-square w h
-  unfolding finish-square
-  finish-found x y e =
-      let all = limits w h yes in
-      rw yes (ap (λ (s : Square). answered (s .x ∷ s .y ∷ [])) (sym (last-square w h x y (all .w-least) (all .h-least) e)))
+-- The finish square of every area on the grid is as document 02 says.
+pub same-added : (o : ℤ) (a b : ℕ) → o +ℤ pos a ≡ o +ℤ pos b → a ≡ b
+same-added o a b e = ap mag (sym (added-off o (pos a)) ∙ ap (λ (z : ℤ). z -ℤ o) e ∙ added-off o (pos b))
 
-  pub finish-is : Finish w h
-  unfolding finish-square
+module _ (area : Area) (ok : grid-accepted area ≡ true) where
+  within-limits : Limits (area .w) (area .h)
+  within-limits = limits (area .w) (area .h) (grid-passed area ok .0)
+
+  pub finish-answered : let s = square-of (all area) (area .w * area .h - 1) in
+      finish-square-at area ≡ finish-found-at (area .ox +ℤ pos (s .x)) (area .oy +ℤ pos (s .y))
+  unfolding finish-square-at from-origin in-signs
+  finish-answered =
+      let s = square-of (all area) (area .w * area .h - 1) in
+      let tests = grid-guards-passed area ok in
+      ap (from-origin (area .ox) (area .oy)) (answered-so (finish-guards area) 2 (s .x ∷ s .y ∷ []) (tests .0 and tests .1 and tests .2))
+
+  ends-at : (x y : ℕ) → Ends (area .w) (area .h) x y → finish-square-at area ≡ finish-found-at (area .ox +ℤ pos x) (area .oy +ℤ pos y)
+  ends-at x y e =
+      finish-answered
+      ∙ ap (λ (s : Square). finish-found-at (area .ox +ℤ pos (s .x)) (area .oy +ℤ pos (s .y)))
+      (last-square (area .w) (area .h) x y (within-limits .w-least) (within-limits .h-least) e)
+
+  pub finish-is : Finish area
   finish-is =
-      let all = limits w h yes in
-      let end = ends w h (all .w-least) (all .h-least) in
-      let there = finish-found (end .0) (end .1) (end .2) in
+      let w = area .w in
+      let h = area .h in
+      let most = within-limits in
+      let end = ends w h (most .w-least) (most .h-least) in
+      let there = ends-at (end .0) (end .1) (end .2) in
       record {
-        last = rw yes;
-        of-narrow = λ one more. sym (finish-found 0 (h - 1) (up one refl (omega arith)));
-        of-low = λ three odd two. sym (finish-found (w - 2) 0 (short two three odd (omega arith) refl));
-        differs = λ other e. not-corner w h (end .0) (end .1) (end .2) other (ap (figure 0) (there ∙ e)) (ap (figure 1) (there ∙ e));
+        last = finish-answered;
+        of-narrow = λ one more. ends-at 0 (h - 1) (up one refl (omega arith));
+        of-low = λ three odd two. ends-at (w - 2) 0 (short two three odd (omega arith) refl);
+        differs = λ other e.
+            not-corner w h (end .0) (end .1) (end .2) other (same-added (area .ox) (end .0) (w - 1) (ap (signed-figure 0) (sym there ∙ e)))
+            (same-added (area .oy) (end .1) 0 (ap (signed-figure 1) (sym there ∙ e)));
         nowhere-else = λ not.
-            let at = at-corner w h (end .0) (end .1) (all .h-least) (end .2) not in
-            sym there ∙ ap₂ (λ x y. answered (x ∷ y ∷ [])) (at .0) (at .1);
+            let at = at-corner w h (end .0) (end .1) (most .h-least) (end .2) not in
+            there ∙ ap₂ (λ x y. finish-found-at (area .ox +ℤ pos x) (area .oy +ℤ pos y)) (at .0) (at .1);
       }

@@ -1,8 +1,10 @@
 pub mod Answers
-pub mod Calls
 pub mod Finish
+pub mod Demands
+pub mod Refused
+pub mod Moved
+pub mod OneAnswer
+pub mod WrongPrograms
 pub mod Neighbours
-pub mod OnGrid
-pub mod Planning
-pub mod Promises
 pub mod Steps
+pub mod Planning

@@ -13,11 +13,12 @@ use Rattle.division.specs.Division.Inside.{Sized}
 use Rattle.division.proofs.Rules.{All, Chosen, is-run, is-side, is-long, is-u, chosen, halves, parts-are}
 use Rattle.division.proofs.Cases.{induction}
 use Rattle.division.proofs.Cuts.{area, long-areas, u-areas}
-use Rattle.division.proofs.Once.{square-held}
+use Rattle.division.proofs.EachSquareOnce.{square-held}
 use Rattle.division.proofs.Blocks.{whole-inside}
-use Rattle.division.proofs.Local.{Within, whole-within, seen-from, squares-of}
-use Rattle.division.proofs.Squares.{area-at-part, area-run-at, area-side-at}
-use Rattle.division.proofs.Walks.{half-small}
+use Rattle.division.proofs.Coordinates.{Within, whole-within, seen-from}
+use Rattle.division.proofs.PartHolding.{squares-of}
+use Rattle.division.proofs.SquareOfNumber.{area-at-part, area-run-at, area-side-at}
+use Rattle.division.proofs.EvenHalf.{half-small}
 use Rattle.curve.proofs.Finish.{Ends, up, short, corner, half-even, rest-parity, last-square, ends}
 
 -- how far two coordinates lie apart, and two squares, both ways added

@@ -4,21 +4,24 @@ use mathlib.Core.Bool.{Bool, true, false, _&&_, and-eq-true-iff, true≢false}
 use mathlib.Core.List.{List, [], _∷_}
 use mathlib.Core.Logic.{_↔_, _⊎_, inl, inr, ⊎-elim}
 use mathlib.Core.Path.{_≡_, refl, sym, ap, ap₂, subst, subst⁻¹, _∙_}
-use Prim.Native.Nat.{ℕ, zero, suc, _+_, _-_, _*_, _≤_, _<_}
-use native.Mathlib.Nat.{suc-add, sub-zero, add-sub-of-le, mul-pos}
+use Prim.Native.Nat.{ℕ, zero, suc, _+_, _-_, _*_, _≤_, _<_, zero-le}
+use native.Mathlib.Nat.{suc-add, add-zero, sub-zero, add-sub-of-le, mul-pos}
 use native.Mathlib.Omega.{arith}
-use borrow.Author.Tests.{leb-true, le-leb, ltb-true, lt-ltb}
+use borrow.Author.Tests.{leb-true, le-leb, ltb-true, lt-ltb, le-ltb}
 use lib.Dec.{leb, ltb, lit≤}
 use lib.ListN.{length, getD, take, drop, length-take, length-drop}
 use lib.Seq.{take-length, getD-take, getD-drop}
-use Rattle.terms.specs.Terms.{accepted, Figures, answered}
-use Rattle.terms.proofs.Laws.{limits}
+use lib.IntN.{ℤ, pos, negℤ, subℕ, _+ℤ_, _-ℤ_, +ℤ-assoc, negℤ-+ℤ}
+use Rattle.terms.specs.declared.Area.{Area}
+use Rattle.terms.specs.Terms.{grid-accepted, SignedFigures}
+use Rattle.terms.proofs.Limits.{Limits, limits, grid-passed}
+use Rattle.terms.proofs.Signs.{added-off}
 use Rattle.division.specs.Division.{Square, square, whole, curve, one, count, square-of, blocks-holding}
-use Rattle.division.proofs.Once.{length-curve}
-use Rattle.curve.specs.Lookups.{number-to-square}
+use Rattle.division.proofs.EachSquareOnce.{length-curve}
+use Rattle.curve.specs.Lookups.{all, number-to-square-at}
 use Rattle.curve.specs.Steps.{Step, step-between, step-of, shares-side, corner-only, steps-through, walk}
 use Rattle.curve.specs.Steps.{stretch, bends, bend-between, bend-from, bend-to, bend-number, bend-step}
-use Rattle.curve.proofs.Promises.{number-answered, number-asked, answered-square}
+use Rattle.curve.proofs.Demands.{found, number-answered-at, Number-answered, number-asked}
 use Rattle.curve.proofs.Steps.{not-both, side-or-corner, corner-at, Step-is, step-is, one-corner-step}
 
 -- the steps through a list of squares: one less than these, and each from a square to the next
@@ -160,64 +163,87 @@ module _ (w h : ℕ) (lw : 1 ≤ w) (lh : 1 ≤ h) where
       ∙ ap₂ (λ n t. n - one t) (sub-zero (w * h - 1)) whole-between
 
 -- Two successive answers of `number_to_square`: the step between them is one of the five, and their squares share a side or are those of the corner step.
-pub record Across (w h : ℕ) (p q : Square) : Type 0 where
-  pub bent : bends w h ≡ true
-  pub from : p ≡ bend-from w h
-  pub to : q ≡ bend-to w h
+pub record Across (area : Area) (x y x′ y′ : ℤ) : Type 0 where
+  pub bent : bends (area .w) (area .h) ≡ true
+  pub from : (area .ox +ℤ pos (bend-from (area .w) (area .h) .x) ≡ x) × (area .oy +ℤ pos (bend-from (area .w) (area .h) .y) ≡ y)
+  pub to : (area .ox +ℤ pos (bend-to (area .w) (area .h) .x) ≡ x′) × (area .oy +ℤ pos (bend-to (area .w) (area .h) .y) ≡ y′)
 
-module _ (w h i x y k x′ y′ k′ : ℕ) (e : number-to-square w h i ≡ answered (x ∷ y ∷ k ∷ []))
-    (f : number-to-square w h (i + 1) ≡ answered (x′ ∷ y′ ∷ k′ ∷ [])) where
-  was : (accepted w h ≡ true) × (i + 1 < w * h)
-  was = number-asked w h (i + 1) (x′ ∷ y′ ∷ k′ ∷ []) f
+-- the difference of two natural numbers, and of two places that are moved alike
+pos-minus : (a b : ℕ) → pos a -ℤ pos b ≡ subℕ a b
+pos-minus a zero = rw (le-ltb a 0 (zero-le), add-zero, sub-zero)
+pos-minus a (suc b) = refl
 
-  here : square x y ≡ square-of (whole w h) i
-  here = answered-square w h i x y k e
+both-added : (o : ℤ) (a b : ℕ) → o +ℤ pos b -ℤ (o +ℤ pos a) ≡ subℕ b a
+both-added o a b =
+    ap (λ (z : ℤ). o +ℤ pos b +ℤ z) (negℤ-+ℤ o (pos a))
+    ∙ sym (+ℤ-assoc (o +ℤ pos b) (negℤ o) (negℤ (pos a)))
+    ∙ ap (λ (z : ℤ). z +ℤ negℤ (pos a)) (added-off o (pos b))
+    ∙ pos-minus b a
 
-  next : square x′ y′ ≡ square-of (whole w h) (i + 1)
-  next = answered-square w h (i + 1) x′ y′ k′ f
+module _ (area : Area) (i : ℕ) (x y x′ y′ : ℤ) (k k′ : ℕ) (e : number-to-square-at area i ≡ found x y k)
+    (f : number-to-square-at area (i + 1) ≡ found x′ y′ k′) where
+  here : Number-answered area i x y k
+  here = number-asked area i x y k e
 
-  answered-step : step-between (square x y) (square x′ y′) ≡ step-of w h i
-  unfolding step-of
-  answered-step = ap₂ step-between here next
+  next : Number-answered area (i + 1) x′ y′ k′
+  next = number-asked area (i + 1) x′ y′ k′ f
 
-  pub answers-step : Step-is w h i (step-between (square x y) (square x′ y′))
+  sides : Limits (area .w) (area .h)
+  sides = limits (area .w) (area .h) (grid-passed area (here .on) .0)
+
+  abbrev pub apart : Step
+  apart = record { dx = x′ -ℤ x; dy = y′ -ℤ y }
+
+  -- "as signed differences in x and y": they differ by the step of the walk, whatever the origin
+  pub answers-step-at : apart ≡ step-of (area .w) (area .h) i
+  unfolding step-of step-between
+  answers-step-at =
+      let p = square-of (all area) i in
+      let q = square-of (all area) (i + 1) in
+      ap₂ (λ (a b : ℤ). record { dx = a; dy = b })
+      (sym (ap₂ _-ℤ_ (next .x-is) (here .x-is)) ∙ both-added (area .ox) (p .x) (q .x))
+      (sym (ap₂ _-ℤ_ (next .y-is) (here .y-is)) ∙ both-added (area .oy) (p .y) (q .y))
+
+  pub answers-step : Step-is (area .w) (area .h) i apart
   answers-step =
-      let all = limits w h (was .0) in
-      subst⁻¹ (Step-is w h i) answered-step (step-is w h (all .w-least) (all .h-least) i (was .1))
+      subst⁻¹ (Step-is (area .w) (area .h) i) answers-step-at (step-is (area .w) (area .h) (sides .w-least) (sides .h-least) i (next .numbered))
 
-  pub answers-one-corner : corner-only (step-between (square x y) (square x′ y′)) ≡ true → (bends w h ≡ true) × (i ≡ bend-number w h)
+  pub answers-one-corner : corner-only apart ≡ true → (bends (area .w) (area .h) ≡ true) × (i ≡ bend-number (area .w) (area .h))
   answers-one-corner c =
-      let all = limits w h (was .0) in
-      corner-at w h (all .w-least) (all .h-least) i (was .1) (sym (ap corner-only answered-step) ∙ c)
+      corner-at (area .w) (area .h) (sides .w-least) (sides .h-least) i (next .numbered) (sym (ap corner-only answers-step-at) ∙ c)
 
-  pub answers-apart : (shares-side (step-between (square x y) (square x′ y′)) ≡ true) ⊎ Across w h (square x y) (square x′ y′)
+  pub answers-apart : (shares-side apart ≡ true) ⊎ Across area x y x′ y′
   answers-apart =
-      let all = limits w h (was .0) in
-      ⊎-elim (λ s. inl (ap shares-side answered-step ∙ s)) (λ c. inr (by (corner-at w h (all .w-least) (all .h-least) i (was .1) c)))
-      (side-or-corner w h (all .w-least) (all .h-least) i (was .1))
+      ⊎-elim (λ s. inl (ap shares-side answers-step-at ∙ s))
+      (λ c. inr (by (corner-at (area .w) (area .h) (sides .w-least) (sides .h-least) i (next .numbered) c)))
+      (side-or-corner (area .w) (area .h) (sides .w-least) (sides .h-least) i (next .numbered))
     where
-      by : (bends w h ≡ true) × (i ≡ bend-number w h) → Across w h (square x y) (square x′ y′)
+      by : (bends (area .w) (area .h) ≡ true) × (i ≡ bend-number (area .w) (area .h)) → Across area x y x′ y′
       by (bent, is) =
-          let all = limits w h (was .0) in
-          let there = one-corner-step w h (all .w-least) (all .h-least) bent in
+          let there = one-corner-step (area .w) (area .h) (sides .w-least) (sides .h-least) bent in
+          let from : bend-from (area .w) (area .h) ≡ square-of (all area) i = sym (ap (square-of (all area)) is ∙ there .from) in
+          let to : bend-to (area .w) (area .h) ≡ square-of (all area) (i + 1) = sym (ap (λ n. square-of (all area) (n + 1)) is ∙ there .to) in
           record {
             bent = bent;
-            from = here ∙ ap (square-of (whole w h)) is ∙ there .from;
-            to = next ∙ ap (λ n. square-of (whole w h) (n + 1)) is ∙ there .to;
+            from = (ap (λ (s : Square). area .ox +ℤ pos (s .x)) from ∙ here .x-is, ap (λ (s : Square). area .oy +ℤ pos (s .y)) from ∙ here .y-is);
+            to = (ap (λ (s : Square). area .ox +ℤ pos (s .x)) to ∙ next .x-is, ap (λ (s : Square). area .oy +ℤ pos (s .y)) to ∙ next .y-is);
           }
 
 -- And where an area bends, two successive answers are those.
-pub corner-answered : (w h : ℕ) → accepted w h ≡ true → bends w h ≡ true
-    → (k : ℕ) × (k′ : ℕ) × (number-to-square w h (bend-number w h) ≡ answered ((w - 2) ∷ (h - 2) ∷ k ∷ []))
-    × (number-to-square w h (bend-number w h + 1) ≡ answered ((w - 1) ∷ (h - 3) ∷ k′ ∷ []))
-corner-answered w h ok bent =
-    let all = limits w h ok in
-    let there = one-corner-step w h (all .w-least) (all .h-least) bent in
-    let answer : Square → Figures = λ s. answered (s .x ∷ s .y ∷ blocks-holding (whole w h) s ∷ []) in (
-      blocks-holding (whole w h) (bend-from w h),
-      blocks-holding (whole w h) (bend-to w h),
-      number-answered w h ok (bend-number w h) (omega (arith, there .is-step)) ∙ ap answer (there .from),
-      number-answered w h ok (bend-number w h + 1) (there .is-step) ∙ ap answer (there .to),
+pub corner-answered : (area : Area) → grid-accepted area ≡ true → bends (area .w) (area .h) ≡ true
+    → (k : ℕ) × (k′ : ℕ)
+    × (number-to-square-at area (bend-number (area .w) (area .h)) ≡ found (area .ox +ℤ pos (area .w - 2)) (area .oy +ℤ pos (area .h - 2)) k)
+    × (number-to-square-at area (bend-number (area .w) (area .h) + 1) ≡ found (area .ox +ℤ pos (area .w - 1)) (area .oy +ℤ pos (area .h - 3)) k′)
+corner-answered area ok bent =
+    let w = area .w in
+    let h = area .h in
+    let least = limits w h (grid-passed area ok .0) in
+    let there = one-corner-step w h (least .w-least) (least .h-least) bent in
+    let answer : Square → SignedFigures = λ s. found (area .ox +ℤ pos (s .x)) (area .oy +ℤ pos (s .y)) (blocks-holding (all area) s) in (
+      blocks-holding (all area) (bend-from w h),
+      blocks-holding (all area) (bend-to w h),
+      number-answered-at area ok (bend-number w h) (omega (arith, there .is-step)) ∙ ap answer (there .from),
+      number-answered-at area ok (bend-number w h + 1) (there .is-step) ∙ ap answer (there .to),
     )
 
 -- A wrong division that the law turns away: made even by the half and not by the length, as the algorithm is printed, 3 by 3 gets a corner step.

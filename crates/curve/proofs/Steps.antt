@@ -12,9 +12,9 @@ use borrow.Author.Tests.{eqb-true, eq-eqb, leb-true, le-leb, ltb-true, ltb-false
 use lib.Dec.{leb, ltb, eqb}
 use lib.IntN.{ℤ, pos, negsuc, negℤ, subℕ, natAbs}
 use Rattle.division.specs.Division.{Square, square, whole, holds, square-of, number-of}
-use Rattle.division.proofs.Once.{number-below, square-of-number, number-of-square}
+use Rattle.division.proofs.EachSquareOnce.{number-below, square-of-number, number-of-square}
 use Rattle.division.proofs.Blocks.{whole-inside}
-use Rattle.division.proofs.Local.{whole-holds}
+use Rattle.division.proofs.Coordinates.{whole-holds}
 use Rattle.curve.specs.Steps.{Step, step-between, step-of, shares-side, corner-only, bends, bend-from, bend-to, bend-number, bend-step}
 use Rattle.curve.proofs.Finish.{corner, last-square}
 use Rattle.curve.proofs.Neighbours.{far, apart, Bent, Next, first-square, next-square}

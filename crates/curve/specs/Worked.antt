@@ -1,74 +1,99 @@
--- Calls worked by hand, as one table under one claim, which computes: document 01, "Refusal numbers", with the order of the refusals and "the number, all else
--- 0", its cases "65,536 by 1 and 0 by 5: refusal 1"; the finish squares of document 02, order 1, and the limit of its order 7; on small areas the terms of its
--- order 5. The squares, numbers and counts of answered lookups are worked in the division's tables.
-use mathlib.Core.Bool.{Bool, true, _&&_, not}
+-- Calls worked by hand, as one table under one claim, which computes: each refusal of a call before those that come after it, with "the number, all else 0";
+-- the finish squares of document 02, order 1; on document 01's 3 by 4 area and others origins about 0, at the range's ends and beyond them, and squares at the
+-- ends of 32 bits. More squares, numbers and counts of answered lookups are worked in the division's tables.
+use mathlib.Core.Bool.{Bool, true, _&&_}
 use mathlib.Core.List.{List, [], _∷_}
-use Prim.Native.Nat.{ℕ, _+_}
-use lib.Dec.{T, eqb}
+use Prim.Native.Nat.{ℕ}
+use lib.Dec.{T, leb}
 use lib.IntN.{ℤ, pos, negsuc}
-use lib.ListN.{length}
-use Rattle.terms.specs.Terms.{accepted, area-refusal}
-use Rattle.terms.specs.Comparing.{same-numbers, same-figures, same-integer}
-use Rattle.division.specs.Division.{whole, choice, even-half, part, parts, parts-of, moved, against, row, curve-by, down, curve, count, square-of}
-use Rattle.curve.specs.Lookups.{unless-deep, number-to-square, square-to-number, finish-square}
-use Rattle.curve.specs.Steps.{Step, step-between, step-of, shares-side, corner-only, steps-through, walk, stretch}
+use Rattle.terms.specs.declared.Area.{Area}
+use Rattle.terms.specs.declared.Refusal.the-variants.{TooDeep}
+use Rattle.terms.specs.Terms.{in-signs, origin-accepted, most-blocks}
+use Rattle.terms.specs.Guards.{_else_, guarded}
+use Rattle.terms.specs.Comparing.{same-numbers, same-figures, same-integers, same-signed}
+use Rattle.division.specs.Division.{whole, choice, even-half, part, parts, parts-of, against, moved, row, curve-by, down, curve, blocks, blocks-holding, count}
+use Rattle.division.specs.Division.{square-of, number-of, place-in, same, within, holds}
+use Rattle.curve.specs.Lookups.{from-origin, number-to-square-at, square-to-number-at, finish-square-at}
 
--- A line of the table, of a w by h area.
+-- A line of the table: of an area, a number, a square or nothing is asked; the refusal and the values.
 pub data Case : Type 0 where
-  -- a number, a square and the finish square are refused so
-  number-refused : (w h number refusal : ℕ) → Case
-  square-refused : (w h x y refusal : ℕ) → Case
-  finish-refused : (w h refusal : ℕ) → Case
-  -- the finish square is (x, y)
-  finishes-at : (w h x y : ℕ) → Case
-  -- a lookup whose square so many blocks hold is answered, or refused so
-  deep-answered : (blocks : ℕ) → Case
-  deep-refused : (blocks refusal : ℕ) → Case
-  -- the step from number i is (dx, dy)
-  goes : (w h i : ℕ) (dx dy : ℤ) → Case
-  -- a step (dx, dy) shares a side, it touches only at a corner, or neither
-  to-side : (dx dy : ℤ) → Case
-  to-corner : (dx dy : ℤ) → Case
-  to-neither : (dx dy : ℤ) → Case
-  -- the walk has so many steps of either kind, and no others
-  walked : (w h sides corners : ℕ) → Case
-  -- so has the stretch from number i to number j
-  stretched : (w h i j sides corners : ℕ) → Case
-
-is-step : (w h i : ℕ) (dx dy : ℤ) → Bool
-unfolding step-of step-between square-of curve down parts parts-of part choice even-half whole moved against row curve-by mathlib.Core.List.flatten
-is-step w h i dx dy = same-integer (step-of w h i .dx) dx && same-integer (step-of w h i .dy) dy
-
-abbrev by : ℤ → ℤ → Step
-by dx dy = record { dx = dx; dy = dy }
-
-counted : List Step → (sides corners : ℕ) → Bool
-counted steps sides corners =
-    eqb (count shares-side steps) sides && eqb (count corner-only steps) corners && eqb (length steps) (sides + corners)
+  of-number : (area : Area) (number refusal : ℕ) → List ℤ → Case
+  of-square : (area : Area) (x y : ℤ) (refusal : ℕ) → List ℕ → Case
+  of-finish : (area : Area) (refusal : ℕ) → List ℤ → Case
+  -- a lookup whose square so many blocks hold is answered, or refused
+  of-deep : (blocks refusal : ℕ) → List ℕ → Case
 
 right : Case → Bool
-unfolding is-step counted shares-side corner-only walk stretch steps-through count
-right (number-refused w h number r) = same-figures (number-to-square w h number) r (0 ∷ 0 ∷ 0 ∷ [])
-right (square-refused w h x y r) = same-figures (square-to-number w h x y) r (0 ∷ 0 ∷ [])
-right (finish-refused w h r) = same-figures (finish-square w h) r (0 ∷ 0 ∷ [])
-right (finishes-at w h x y) = same-figures (finish-square w h) 0 (x ∷ y ∷ [])
-right (deep-answered blocks) = same-figures (unless-deep blocks (7 ∷ blocks ∷ []) 2) 0 (7 ∷ blocks ∷ [])
-right (deep-refused blocks r) = same-figures (unless-deep blocks (7 ∷ blocks ∷ []) 2) r (0 ∷ 0 ∷ [])
-right (goes w h i dx dy) = is-step w h i dx dy
-right (to-side dx dy) = shares-side (by dx dy) && not (corner-only (by dx dy))
-right (to-corner dx dy) = corner-only (by dx dy) && not (shares-side (by dx dy))
-right (to-neither dx dy) = not (shares-side (by dx dy)) && not (corner-only (by dx dy))
-right (walked w h sides corners) = counted (walk w h) sides corners
-right (stretched w h i j sides corners) = counted (stretch w h i j) sides corners
+right (of-number area n r values) = same-signed (number-to-square-at area n) r values
+right (of-square area x y r values) = same-figures (square-to-number-at area x y) r values
+right (of-finish area r values) = same-signed (finish-square-at area) r values
+right (of-deep blocks r values) = same-figures (guarded (leb blocks most-blocks else TooDeep ∷ []) 2 (7 ∷ blocks ∷ [])) r values
 
 pub all-right : List Case → Bool
 all-right [] = true
 all-right (c ∷ cs) = right c && all-right cs
 
+-- A w by h area at an origin. (`negsuc n` is the integer -(n + 1).)
+abbrev at : (w h : ℕ) (ox oy : ℤ) → Area
+at w h ox oy = record { w = w; h = h; ox = ox; oy = oy }
+
+zeros : List ℤ
+zeros = pos 0 ∷ pos 0 ∷ []
+
+-- So at origin 0 0: a number, a square and the finish square are refused, and the finish square is (x, y).
+abbrev number-refused : (w h number refusal : ℕ) → Case
+number-refused w h number refusal = of-number (at w h (pos 0) (pos 0)) number refusal (pos 0 ∷ pos 0 ∷ pos 0 ∷ [])
+
+abbrev square-refused : (w h x y refusal : ℕ) → Case
+square-refused w h x y refusal = of-square (at w h (pos 0) (pos 0)) (pos x) (pos y) refusal (0 ∷ 0 ∷ [])
+
+abbrev finish-refused : (w h refusal : ℕ) → Case
+finish-refused w h refusal = of-finish (at w h (pos 0) (pos 0)) refusal (pos 0 ∷ pos 0 ∷ [])
+
+abbrev finishes-at : (w h x y : ℕ) → Case
+finishes-at w h x y = of-finish (at w h (pos 0) (pos 0)) 0 (pos x ∷ pos y ∷ [])
+
 pub worked : List Case
 worked =
+    -- "origin plus the old square": number 8 is the old square (2, 1), held by 3 blocks, and (2, 0) is the old finish
+    of-number (at 3 4 (pos 0) (pos 0)) 8 0 (pos 2 ∷ pos 1 ∷ pos 3 ∷ [])
+    ∷ of-number (at 3 4 (negsuc 4) (pos 7)) 8 0 (negsuc 2 ∷ pos 8 ∷ pos 3 ∷ [])
+    ∷ of-number (at 3 4 (negsuc 1) (negsuc 0)) 8 0 (pos 0 ∷ pos 0 ∷ pos 3 ∷ [])
+    ∷ of-finish (at 3 4 (negsuc 4) (pos 7)) 0 (negsuc 2 ∷ pos 7 ∷ [])
+    ∷ of-finish (at 5 2 (pos 10) (negsuc 9)) 0 (pos 13 ∷ negsuc 9 ∷ [])
+    ∷ of-square (at 3 4 (negsuc 4) (pos 7)) (negsuc 2) (pos 8) 0 (8 ∷ 3 ∷ [])
+    ∷ of-square (at 3 4 (pos 0) (pos 0)) (pos 2) (pos 1) 0 (8 ∷ 3 ∷ [])
+    -- outside: the old square's own place, the last square's neighbours, and squares before the origin
+    ∷ of-square (at 3 4 (negsuc 4) (pos 7)) (pos 2) (pos 1) 2 (0 ∷ 0 ∷ [])
+    ∷ of-square (at 3 4 (negsuc 4) (pos 7)) (negsuc 1) (pos 7) 2 (0 ∷ 0 ∷ [])
+    ∷ of-square (at 3 4 (negsuc 4) (pos 7)) (negsuc 5) (pos 7) 2 (0 ∷ 0 ∷ [])
+    ∷ of-square (at 3 4 (negsuc 4) (pos 7)) (negsuc 4) (pos 6) 2 (0 ∷ 0 ∷ [])
+    ∷ of-square (at 3 4 (negsuc 4) (pos 7)) (negsuc 4) (pos 11) 2 (0 ∷ 0 ∷ [])
+    -- every signed 32-bit value has an answer
+    ∷ of-square (at 3 4 (pos 1000000) (pos 1000000)) (negsuc 2147483647) (pos 1000000) 2 (0 ∷ 0 ∷ [])
+    ∷ of-square (at 3 4 (negsuc 999999) (negsuc 999999)) (pos 2147483647) (negsuc 999999) 2 (0 ∷ 0 ∷ [])
+    ∷ of-square (at 3 4 (negsuc 999999) (negsuc 999999)) (negsuc 999999) (negsuc 2147483647) 2 (0 ∷ 0 ∷ [])
+    -- "each from -1,000,000 to 1,000,000"
+    ∷ of-number (at 1 1 (negsuc 999999) (pos 1000000)) 0 0 (negsuc 999999 ∷ pos 1000000 ∷ pos 1 ∷ [])
+    ∷ of-number (at 1 1 (pos 1000001) (pos 0)) 0 12 (pos 0 ∷ zeros)
+    ∷ of-number (at 1 1 (pos 0) (negsuc 1000000)) 0 12 (pos 0 ∷ zeros)
+    ∷ of-square (at 1 1 (negsuc 1000000) (pos 0)) (negsuc 1000000) (pos 0) 12 (0 ∷ 0 ∷ [])
+    ∷ of-finish (at 1 1 (pos 0) (pos 2147483647)) 12 zeros
+    -- 13 "directly after 1 and before everything else"
+    ∷ of-number (at 4096 4097 (pos 1000001) (pos 0)) 0 13 (pos 0 ∷ zeros)
+    ∷ of-square (at 65535 257 (pos 0) (negsuc 1000000)) (pos 0) (pos 0) 13 (0 ∷ 0 ∷ [])
+    ∷ of-finish (at 65535 65535 (pos 1000001) (pos 0)) 13 zeros
+    ∷ of-number (at 0 65536 (pos 1000001) (pos 0)) 0 1 (pos 0 ∷ zeros)
+    ∷ of-number (at 4096 4096 (pos 1000001) (pos 0)) 0 12 (pos 0 ∷ zeros)
+    -- 12 "directly after 1", and before the call's own
+    ∷ of-number (at 0 1 (pos 1000001) (pos 0)) 0 1 (pos 0 ∷ zeros)
+    ∷ of-square (at 65536 1 (pos 1000001) (pos 0)) (pos 0) (pos 0) 1 (0 ∷ 0 ∷ [])
+    ∷ of-finish (at 1 0 (pos 1000001) (pos 0)) 1 zeros
+    ∷ of-number (at 3 4 (pos 1000001) (pos 0)) 12 12 (pos 0 ∷ zeros)
+    ∷ of-square (at 3 4 (pos 1000001) (pos 0)) (negsuc 0) (pos 0) 12 (0 ∷ 0 ∷ [])
+    ∷ of-number (at 3 4 (negsuc 4) (pos 7)) 12 3 (pos 0 ∷ zeros)
     -- "w or h is 0 or over 65,535", before 2 and 3: in each of these areas the number and the square are outside too
-    number-refused 0 5 0 1
+    ∷ number-refused 0 5 0 1
     ∷ number-refused 5 0 0 1
     ∷ number-refused 65536 1 65536 1
     ∷ number-refused 1 65536 65536 1
@@ -126,51 +151,13 @@ worked =
     ∷ finishes-at 2 5 1 0
     ∷ finishes-at 3 4 2 0
     -- "a descent would open a 65th block"
-    ∷ deep-answered 1
-    ∷ deep-answered 64
-    ∷ deep-refused 65 9
-    -- "signed differences in x and y": up, to the right, to the left, across a corner, and down
-    ∷ goes 3 4 0 (pos 0) (pos 1)
-    ∷ goes 3 4 3 (pos 1) (pos 0)
-    ∷ goes 3 4 6 (negsuc 0) (pos 0)
-    ∷ goes 3 4 7 (pos 1) (negsuc 0)
-    ∷ goes 3 4 9 (pos 0) (negsuc 0)
-    -- "share a side"
-    ∷ to-side (pos 1) (pos 0)
-    ∷ to-side (negsuc 0) (pos 0)
-    ∷ to-side (pos 0) (pos 1)
-    ∷ to-side (pos 0) (negsuc 0)
-    -- "touches only at a corner"
-    ∷ to-corner (pos 1) (pos 1)
-    ∷ to-corner (pos 1) (negsuc 0)
-    ∷ to-corner (negsuc 0) (pos 1)
-    ∷ to-corner (negsuc 0) (negsuc 0)
-    -- the same square, and squares further off
-    ∷ to-neither (pos 0) (pos 0)
-    ∷ to-neither (pos 2) (pos 0)
-    ∷ to-neither (pos 0) (negsuc 1)
-    ∷ to-neither (pos 2) (pos 1)
-    ∷ to-neither (negsuc 0) (pos 2)
-    ∷ to-neither (negsuc 1) (negsuc 1)
-    -- "exactly one step .. Otherwise there is none."
-    ∷ walked 3 4 10 1
-    ∷ walked 5 4 18 1
-    ∷ walked 3 6 16 1
-    ∷ walked 3 3 8 0
-    ∷ walked 4 3 11 0
-    ∷ walked 4 4 15 0
-    ∷ walked 5 2 9 0
-    ∷ walked 1 4 3 0
-    ∷ walked 1 1 0 0
-    -- before the corner step of 3 by 4, it alone, after it, and with it
-    ∷ stretched 3 4 0 7 7 0
-    ∷ stretched 3 4 7 8 0 1
-    ∷ stretched 3 4 8 11 3 0
-    ∷ stretched 3 4 5 9 3 1
-    ∷ stretched 3 4 5 5 0 0
+    ∷ of-deep 1 0 (7 ∷ 1 ∷ [])
+    ∷ of-deep 64 0 (7 ∷ 64 ∷ [])
+    ∷ of-deep 65 9 (0 ∷ 0 ∷ [])
     ∷ []
 
 pub worked-right : T (all-right worked)
-unfolding worked all-right right same-figures same-numbers number-to-square square-to-number finish-square accepted area-refusal square-of curve down parts
-    parts-of part choice even-half whole moved against row curve-by mathlib.Core.List.flatten
+unfolding worked all-right right zeros same-figures same-numbers same-signed same-integers number-to-square-at square-to-number-at finish-square-at from-origin
+    in-signs origin-accepted square-of number-of place-in same whole choice even-half
+    part parts parts-of against moved row curve-by down curve blocks blocks-holding count within holds mathlib.Core.List.flatten
 worked-right = tt

@@ -2,16 +2,21 @@
 // the datum post.
 use descents::Held;
 use searches::Numbered;
+use terms::Admission;
 use terms::Area;
 use terms::Refusal;
-ghost use mathlib.Core.Bool.{true};
+ghost use mathlib.Core.Bool.{true, _&&_};
 ghost use mathlib.Core.List.{[], _∷_};
 ghost use mathlib.Core.Path.{_≡_};
-ghost use Prim.Native.Nat.{_≤_};
+ghost use Prim.Native.Nat.{_-_, _*_, _≤_};
+ghost use lib.Dec.{leb, ltb};
 ghost use lib.IntN.{pos, _+ℤ_};
-ghost use Rattle.terms.specs.Terms.{longest-side, offset-accepted, answered};
-ghost use Rattle.curve.specs.Lookups.{unless-deep, number-figures};
-ghost use Rattle.curve.specs.Grid.{square-figures, finish-figures, from-origin, number-to-square-at, square-to-number-at, finish-square-at};
+ghost use Rattle.terms.specs.declared.Refusal.the-variants.{TooDeep};
+ghost use Rattle.terms.specs.Terms.{longest-side, most-blocks, offset-accepted, accepted, grid-accepted, answered};
+ghost use Rattle.terms.specs.Guards.{_else_, guarded};
+ghost use Rattle.division.specs.Division.{square, whole, square-of};
+ghost use Rattle.curve.specs.Lookups.{from-origin, number-to-square-at, square-to-number-at, finish-square-at};
+ghost use Rattle.curve.specs.Lookups.{square-figures, number-figures, finish-figures};
 ghost use Rattle.curve.specs.Placing.{Places};
 
 // The most blocks of the division that a lookup opens.
@@ -47,7 +52,9 @@ fn shifted(o: i32, d: u32) -> i32
 fn square_unless_deep(area: Area, held: Held) -> SquareAnswer
     requires { ⌜ Places area (held .x) (held .y) ⌝ }
     ensures { λ r.
-        ⌜ square-figures r ≡ from-origin (area .ox) (area .oy) (unless-deep (held .blocks) (held .x ∷ held .y ∷ held .blocks ∷ []) 3) ⌝ }
+        ⌜ square-figures r
+        ≡ from-origin (area .ox) (area .oy)
+        (guarded (leb (held .blocks) most-blocks else TooDeep ∷ []) 3 (held .x ∷ held .y ∷ held .blocks ∷ [])) ⌝ }
 {
     if MOST_BLOCKS < held.blocks {
         return SquareAnswer::Refused(Refusal::TooDeep);
@@ -60,7 +67,7 @@ fn square_unless_deep(area: Area, held: Held) -> SquareAnswer
 }
 
 fn number_unless_deep(found: Numbered) -> NumberAnswer
-    ensures { λ r. ⌜ number-figures r ≡ unless-deep (found .blocks) (found .number ∷ found .blocks ∷ []) 2 ⌝ }
+    ensures { λ r. ⌜ number-figures r ≡ guarded (leb (found .blocks) most-blocks else TooDeep ∷ []) 2 (found .number ∷ found .blocks ∷ []) ⌝ }
 {
     if MOST_BLOCKS < found.blocks {
         return NumberAnswer::Refused(Refusal::TooDeep);
@@ -71,15 +78,14 @@ fn number_unless_deep(found: Numbered) -> NumberAnswer
     }
 }
 
-// A finish square, moved by the origin.
-fn finish_at(area: Area, x: u32, y: u32) -> FinishAnswer
-    requires { ⌜ Places area x y ⌝ }
-    ensures { λ r. ⌜ finish-figures r ≡ from-origin (area .ox) (area .oy) (answered (x ∷ y ∷ [])) ⌝ }
+// Whether a square, by its distances from the origin, lies in the area.
+fn is_inside(area: Area, u: u32, v: u32) -> bool
+    ensures { λ r. ⌜ r ≡ ltb u (area .w) && ltb v (area .h) ⌝ }
 {
-    FinishAnswer::Found {
-        x: shifted(area.ox, x),
-        y: shifted(area.oy, y),
+    if area.w <= u {
+        return false;
     }
+    v < area.h
 }
 
 // The square of a number of an area, and how many blocks of the division hold it.
@@ -88,49 +94,71 @@ pub fn number_to_square(area: Area, number: u32) -> SquareAnswer
 {
     let w = area.w;
     let h = area.h;
-    if !terms::accepts_grid(area) {
-        return SquareAnswer::Refused(terms::grid_refusal(area));
+    let grid = terms::admit_grid(area);
+    match terms::guard(
+        grid,
+        (number as u64) < w as u64 * h as u64,
+        Refusal::NumberOutside,
+    ) {
+        Admission::Refused(r) => SquareAnswer::Refused(r),
+        Admission::Granted => square_unless_deep(area, descents::square_at(w, h, number)),
     }
-    if w * h <= number {
-        return SquareAnswer::Refused(Refusal::NumberOutside);
-    }
-    square_unless_deep(area, descents::square_at(w, h, number))
 }
 
 // The number of a square of an area, and how many blocks of the division hold it.
 pub fn square_to_number(area: Area, x: i32, y: i32) -> NumberAnswer
     ensures { λ r. ⌜ number-figures r ≡ square-to-number-at area x y ⌝ }
 {
-    let w = area.w;
-    let h = area.h;
-    if !terms::accepts_grid(area) {
-        return NumberAnswer::Refused(terms::grid_refusal(area));
-    }
     let u = terms::distance(x, area.ox);
     let v = terms::distance(y, area.oy);
-    if w <= u {
-        return NumberAnswer::Refused(Refusal::SquareOutside);
+    let grid = terms::admit_grid(area);
+    match terms::guard(grid, is_inside(area, u, v), Refusal::SquareOutside) {
+        Admission::Refused(r) => NumberAnswer::Refused(r),
+        Admission::Granted => number_unless_deep(searches::number_at(area.w, area.h, u, v)),
     }
-    if h <= v {
-        return NumberAnswer::Refused(Refusal::SquareOutside);
-    }
-    number_unless_deep(searches::number_at(w, h, u, v))
 }
 
-// The finish square, which is the square of the last number. The area's lengths tell it, so that no block has to be opened.
+// A square counted from the area's own corner.
+struct OldSquare {
+    x: u32,
+    y: u32,
+}
+
+// The square of the last number. The area's lengths tell it, so that no block has to be opened.
+fn last_square(w: u32, h: u32) -> OldSquare
+    requires { ⌜ accepted w h ≡ true ⌝ }
+    ensures { λ r. ⌜ square (r .x) (r .y) ≡ square-of (whole w h) (w * h - 1) ⌝ }
+{
+    if w == 1 {
+        return OldSquare { x: 0, y: h - 1 };
+    }
+    if h == 2 {
+        return OldSquare {
+            x: w - 1 - w % 2,
+            y: 0,
+        };
+    }
+    OldSquare { x: w - 1, y: 0 }
+}
+
+// That square, moved by the origin.
+fn finish_within(area: Area) -> FinishAnswer
+    requires { ⌜ grid-accepted area ≡ true ⌝ }
+    ensures { λ r. ⌜ finish-figures r ≡ finish-square-at area ⌝ }
+{
+    let last = last_square(area.w, area.h);
+    FinishAnswer::Found {
+        x: shifted(area.ox, last.x),
+        y: shifted(area.oy, last.y),
+    }
+}
+
+// The finish square, which is the square of the last number.
 pub fn finish_square(area: Area) -> FinishAnswer
     ensures { λ r. ⌜ finish-figures r ≡ finish-square-at area ⌝ }
 {
-    let w = area.w;
-    let h = area.h;
-    if !terms::accepts_grid(area) {
-        return FinishAnswer::Refused(terms::grid_refusal(area));
+    match terms::admit_grid(area) {
+        Admission::Refused(r) => FinishAnswer::Refused(r),
+        Admission::Granted => finish_within(area),
     }
-    if w == 1 {
-        return finish_at(area, 0, h - 1);
-    }
-    if h == 2 {
-        return finish_at(area, w - 1 - w % 2, 0);
-    }
-    finish_at(area, w - 1, 0)
 }

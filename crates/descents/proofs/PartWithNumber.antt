@@ -18,11 +18,12 @@ use Rattle.division.specs.Forms.{block, block-at, stepped-to, Steps}
 use Rattle.division.proofs.Cases.{long-lengths, u-lengths, run-length, side-length, rule}
 use Rattle.division.proofs.Sums.{total, all-right}
 use Rattle.division.proofs.Cuts.{area, long-areas}
-use Rattle.division.proofs.Once.{square-held}
-use Rattle.division.proofs.Local.{whole-within}
+use Rattle.division.proofs.EachSquareOnce.{square-held}
+use Rattle.division.proofs.Coordinates.{whole-within}
 use Rattle.division.proofs.Descent.{part-inside, square-in, holding-in, straight-holding, run-square, side-square}
-use Rattle.division.proofs.Walks.{a-limit, b-limit, product-limit, u-sum, Sums-fit, sums-fit, run-moved, side-moved, steps-along, steps-across}
-use Rattle.descents.specs.Descents.{square-packed, square-unpacked, held, Enters, Descends, descent-packed}
+use Rattle.division.proofs.PlacedParts.{run-moved, side-moved, steps-along, steps-across}
+use Rattle.division.proofs.WithinLimits.{a-limit, b-limit, product-limit, u-sum, Sums-fit, sums-fit}
+use Rattle.descents.specs.Descents.{past-coordinates, past-counts, square-packed, square-unpacked, held, Enters, Descends, descent-packed}
 
 enters : (k : Block) → Inside longest-side longest-side k → (before : List Block) (q : Block) (after : List Block) → parts k ≡ before ++ (q ∷ after)
     → (i j : ℕ) → total area before + j ≡ i → j < area q → Enters k i q j
@@ -124,7 +125,7 @@ module _ {k : Block} {i above : ℕ} (r : Descends k i above) where
     unfolding parts-of
     run-alone = alone (parts-are k StraightRun c)
 
-    pub run-count : above + 1 < 256
+    pub run-count : above + 1 < past-counts
     run-count = let n = run-alone in let l = r .count in omega arith
 
     pub run-packed : square-packed (moved (k .run) i (k .start)) (above + 1) ≡ descent-packed k i above
@@ -139,7 +140,7 @@ module _ {k : Block} {i above : ℕ} (r : Descends k i above) where
     unfolding parts-of
     side-alone = alone (parts-are k StraightSide c)
 
-    pub side-count : above + 1 < 256
+    pub side-count : above + 1 < past-counts
     side-count = let n = side-alone in let l = r .count in omega arith
 
     pub side-packed : square-packed (moved (k .side) i (k .start)) (above + 1) ≡ descent-packed k i above
@@ -164,18 +165,19 @@ module _ {k : Block} {i above : ℕ} (r : Descends k i above) {q : Block} {j : �
   pub next-descent : Descends q j (above + 1)
   next-descent = record { inside = l .inside; below = l .below; count = let n = blocks-there in let m = r .count in omega arith }
 
-  pub next-count : above + 1 < 256
+  pub next-count : above + 1 < past-counts
   next-count = let m = r .count in let n = l .holding in omega arith
 
   pub next-packed : descent-packed q j (above + 1) ≡ descent-packed k i above
   next-packed = ap₂ square-packed (l .square) blocks-there
 
 -- what was packed is what is taken out again
-pub taken-out : (s : Square) (blocks : ℕ) → s .x < 65536 → s .y < 65536 → blocks < 256 → square-unpacked (square-packed s blocks) ≡ held s blocks
+pub taken-out : (s : Square) (blocks : ℕ) → s .x < past-coordinates → s .y < past-coordinates → blocks < past-counts
+    → square-unpacked (square-packed s blocks) ≡ held s blocks
 taken-out s blocks x y few =
-    let x-is : square-packed s blocks / 16777216 % 65536 ≡ s .x = omega arith in
-    let y-is : square-packed s blocks / 256 % 65536 ≡ s .y = omega arith in
-    let blocks-is : square-packed s blocks % 256 ≡ blocks = omega arith in
+    let x-is : square-packed s blocks / past-counts / past-coordinates % past-coordinates ≡ s .x = omega arith in
+    let y-is : square-packed s blocks / past-counts % past-coordinates ≡ s .y = omega arith in
+    let blocks-is : square-packed s blocks % past-counts ≡ blocks = omega arith in
     λ i. record { x = x-is i; y = y-is i; blocks = blocks-is i }
 
 -- a descent from the whole area: its square is within the limit, and is what is taken out

@@ -18,22 +18,27 @@ pub struct Held {
     pub blocks: u32,
 }
 
+// The factors of packing: the least number past every coordinate, and past every count of blocks.
+const PAST_COORDINATES: u64 = 65536;
+
+const PAST_COUNTS: u64 = 256;
+
 // Both packed into one number, which a descent returns without a copy, and taken out again.
 fn pack_square(along: u32, across: u32, turned: bool, blocks: u32) -> u64
     ensures { λ r. ⌜ r ≡ square-packed (cond turned (square across along) (square along across)) blocks ⌝ }
 {
     let x = division::either(turned, across, along);
     let y = division::either(turned, along, across);
-    (x as u64 * 65536 + y as u64) * 256 + blocks as u64
+    (x as u64 * PAST_COORDINATES + y as u64) * PAST_COUNTS + blocks as u64
 }
 
 fn unpack_square(packed: u64) -> Held
     ensures { λ r. ⌜ r ≡ square-unpacked packed ⌝ }
 {
     Held {
-        x: (packed / 16777216 % 65536) as u32,
-        y: (packed / 256 % 65536) as u32,
-        blocks: (packed % 256) as u32,
+        x: (packed / PAST_COUNTS / PAST_COORDINATES % PAST_COORDINATES) as u32,
+        y: (packed / PAST_COUNTS % PAST_COORDINATES) as u32,
+        blocks: (packed % PAST_COUNTS) as u32,
     }
 }
 

@@ -1,4 +1,4 @@
--- A program's calls of `feed` and `finish` are the steps of a run: what they wrote, one after the other, is what is printed for the input, and so by
+-- A program's calls of `feed` and `finish` are the steps of a feeding: what they wrote, one after the other, is what is printed for the input, and so by
 -- `whole-printed` the output of it. What a call wrote stands in its output from the place that it was given to the place that it returned.
 use mathlib.Core.Bool.{Bool, true, false, cond}
 use mathlib.Core.List.{List, [], _∷_, _++_}
@@ -14,7 +14,7 @@ use Rattle.replies.specs.Text.{longest, Writes, if-room}
 use Rattle.replies.proofs.Writing.{stands-written, writes-as}
 use Rattle.desk.specs.declared.Desk.{Desk}
 use Rattle.desk.specs.Steps.{prints-last, still, fed, in-order, fed-any, prints-last-any, Lent, Returned, feed-due, Feeds}
-use Rattle.desk.specs.Runs.{Printed, ended, closed, piece-fed}
+use Rattle.desk.specs.Pieces.{Printed, ended, closed, piece-fed}
 use Rattle.desk.proofs.Bytes.{all-written}
 
 -- after the end of an output nothing is printed
@@ -34,7 +34,7 @@ none-behind d kept at size bytes l = by (in-order d kept)
 nothing : {t t′ : List ℕ} {at end : ℕ} → Writes t at [] t′ end → slice at end t′ ≡ []
 nothing {t} {t′} {at} w = ap (λ n. slice at n t′) (w .behind ∙ add-zero at) ∙ slice-empty at t′
 
--- A call of `feed` that meets its promise, and a run from where it left the desk.
+-- A call of `feed` that meets its promise, and a feeding from where it left the desk.
 module _ {d : Desk} {lent : Lent} {back : Returned} (f : Feeds d lent back) (within : lent .at ≤ length (lent .out) → back .at ≤ length (lent .out)) where
   abbrev piece : List ℕ
   piece = drop (lent .from) (lent .chunk)
@@ -56,13 +56,13 @@ module _ {d : Desk} {lent : Lent} {back : Returned} (f : Feeds d lent back) (wit
 
   pub feed-is-a-step : (rest : List ℕ) {printed : List ℕ} → Printed (back .desk) (back .kept) (drop (back .from) (lent .chunk) ++ rest) printed
       → Printed d (lent .kept) (piece ++ rest) (wrote ++ printed)
-  feed-is-a-step rest {printed} run =
+  feed-is-a-step rest {printed} feeding =
       let r = feed-due d lent in
       subst (λ (zs : List ℕ). Printed d (lent .kept) (piece ++ rest) (zs ++ printed)) (sym wrote-is)
       (piece-fed d (lent .kept) (lent .at) (length (lent .out)) piece rest printed
       (subst (λ (e : Desk). Printed e (r .kept) (drop (r .taken) piece ++ rest) printed) (f .desk-is)
       (subst (λ (k : List ℕ). Printed (back .desk) k (drop (r .taken) piece ++ rest) printed) (f .kept-is)
-      (subst (λ (zs : List ℕ). Printed (back .desk) (back .kept) (zs ++ rest) printed) left-is run))))
+      (subst (λ (zs : List ℕ). Printed (back .desk) (back .kept) (zs ++ rest) printed) left-is feeding))))
 
 -- A call of `finish` that meets its promise, with room, at the end of the input; and one with a desk that reads no more, wherever the input stands.
 module _ (d : Desk) (kept : List ℕ) {out out′ : List ℕ} {at end : ℕ} (w : Writes out at (if-room out at (prints-last-any d kept)) out′ end) where

@@ -5,55 +5,57 @@ use mathlib.Core.Logic.{inl, inr}
 use mathlib.Core.Path.{_≡_, refl, sym, ap, ap₂, _∙_}
 use Prim.Native.Nat.{ℕ, _+_}
 use Prim.Native.String.{String}
-use native.Mathlib.Nat.{le-refl}
 use native.Mathlib.Omega.{arith}
 use lib.Dec.{leb, eqb, lit<}
+use lib.IntN.{pos, _+ℤ_}
 use lib.ListN.{drop}
 use Rattle.terms.specs.declared.Refusal.the-variants.{NumberOutside}
-use Rattle.terms.specs.Terms.{accepted, answered, refused, in-signs, signed, origin-accepted, at-post}
+use Rattle.terms.specs.Terms.{accepted, grid-accepted, answered, refused, in-signs, signed, origin-accepted, at-post}
 use Rattle.division.specs.Division.{Square, whole, blocks-holding}
 use Rattle.division.specs.Division.Worked.{eighth, eighth-held}
-use Rattle.curve.specs.Lookups.{number-to-square, square-to-number, finish-square}
-use Rattle.curve.proofs.Answers.{number-outside}
-use Rattle.curve.proofs.Calls.{square-as-before, finish-as-before, number-as-before}
-use Rattle.curve.proofs.Finish.{Elsewhere, narrow, low, finish-is}
-use Rattle.curve.proofs.Promises.{number-answered, number-back}
+use Rattle.curve.specs.Lookups.{number-to-square-at, square-to-number-at, finish-square-at}
+use Rattle.curve.proofs.Answers.{number-refused-so}
+use Rattle.curve.proofs.Finish.{Elsewhere, narrow, low, finish-found-at, finish-is}
+use Rattle.curve.proofs.Demands.{found, number-answered-at, number-back-at}
 use Rattle.words.specs.Letters.{bytes}
 use Rattle.words.specs.Words.{begins, all-digits, value-on, is-number, numeral, same-bytes}
 use Rattle.words.specs.Signed.{signed-numeral}
-use Rattle.lines.specs.Lines.{fields, AREA, ORIGIN, shaped, request}
+use Rattle.fields.specs.Fields.{fields}
+use Rattle.lines.specs.Lines.{AREA, ORIGIN, shaped, request}
 use Rattle.words.specs.Decimal.{decimal-by, decimal}
 use Rattle.words.proofs.Same.{same-itself}
 use Rattle.clerk.specs.declared.Clerk.{Clerk}
 use Rattle.clerk.specs.declared.Clerk.the-variants.{NoArea, InForce}
 use Rattle.clerk.specs.Clerk.{Area-set, Cell, Number, Refused, Said, says, from-call, after, reply}
+use Rattle.clerk.proofs.InForce.{in-force}
 use Rattle.clerk.proofs.Areas.{Begun, others-alter-nothing}
 use Rattle.replies.specs.Text.{text}
 use Rattle.desk.specs.Desk.{last-answered, lines-of, answers, output}
 
-accepts : accepted 3 4 ≡ true
-unfolding accepted
+accepts : grid-accepted (at-post 3 4) ≡ true
+unfolding accepted origin-accepted
 accepts = refl
 
-cell : number-to-square 3 4 8 ≡ answered (2 ∷ 1 ∷ 3 ∷ [])
+cell : number-to-square-at (at-post 3 4) 8 ≡ found (pos 2) (pos 1) 3
 cell =
-    number-answered 3 4 accepts 8 (lit< tt)
-    ∙ ap (λ (s : Square). answered (s .x ∷ s .y ∷ blocks-holding (whole 3 4) s ∷ [])) eighth
-    ∙ ap (λ n. answered (2 ∷ 1 ∷ n ∷ [])) eighth-held
+    number-answered-at (at-post 3 4) accepts 8 (lit< tt)
+    ∙ ap (λ (s : Square). found (pos 0 +ℤ pos (s .x)) (pos 0 +ℤ pos (s .y)) (blocks-holding (whole 3 4) s)) eighth
+    ∙ ap (found (pos 2) (pos 1)) eighth-held
 
-number : square-to-number 3 4 2 1 ≡ answered (8 ∷ 3 ∷ [])
-number = number-back 3 4 8 2 1 3 cell
+number : square-to-number-at (at-post 3 4) (pos 2) (pos 1) ≡ answered (8 ∷ 3 ∷ [])
+number = number-back-at (at-post 3 4) 8 (pos 2) (pos 1) 3 cell
 
-past-the-end : number-to-square 3 4 12 ≡ refused NumberOutside 3
-past-the-end = sym (number-outside 3 4 accepts 12 (le-refl 12))
+past-the-end : number-to-square-at (at-post 3 4) 12 ≡ signed (refused NumberOutside 3)
+unfolding accepted origin-accepted
+past-the-end = sym (number-refused-so (at-post 3 4) 12 NumberOutside refl)
 
 -- no area of those that end elsewhere than at (w - 1, 0)
 corner : Elsewhere 3 4 → ⊥
 corner (narrow one more) = omega arith
 corner (low three odd two) = omega arith
 
-finish : finish-square 3 4 ≡ answered (2 ∷ 0 ∷ [])
-finish = finish-is 3 4 accepts .nowhere-else corner
+finish : finish-square-at (at-post 3 4) ≡ finish-found-at (pos 2) (pos 0)
+finish = finish-is (at-post 3 4) accepts .nowhere-else corner
 
 abbrev pub input : String
 input = "AREA 3 4\nN 8\nS 2 1\nN 3E4\nN 12\n"
@@ -73,30 +75,31 @@ three-by-four = InForce (at-post 3 4)
 -- the five replies, and that only the first line alters the area
 set : reply NoArea (bytes "AREA 3 4") ≡ says Area-set (in-signs (3 ∷ 4 ∷ 12 ∷ 2 ∷ 0 ∷ []))
 unfolding reply request shaped fields same-bytes numeral is-number all-digits value-on in-signs
-set = ap (from-call Area-set (in-signs (3 ∷ 4 ∷ 12 ∷ []))) (finish-as-before 3 4 ∙ ap signed finish)
+set = ap (from-call Area-set (in-signs (3 ∷ 4 ∷ 12 ∷ []))) finish
 
 asked-number : reply three-by-four (bytes "N 8") ≡ says Cell (in-signs (2 ∷ 1 ∷ 3 ∷ []))
-unfolding three-by-four reply request shaped fields same-bytes numeral is-number all-digits value-on
-asked-number = ap (from-call Cell []) (square-as-before 3 4 8 ∙ ap signed cell)
+unfolding three-by-four reply request shaped fields same-bytes numeral is-number all-digits value-on in-signs accepted origin-accepted
+asked-number = ap (from-call Cell []) cell
 
 asked-square : reply three-by-four (bytes "S 2 1") ≡ says Number (in-signs (8 ∷ 3 ∷ []))
-unfolding three-by-four reply request shaped fields same-bytes signed-numeral numeral is-number all-digits value-on
-asked-square = ap (λ f. from-call Number [] (signed f)) (number-as-before 3 4 2 1 ∙ number)
+unfolding three-by-four reply request shaped fields same-bytes signed-numeral numeral is-number all-digits value-on accepted origin-accepted
+asked-square = ap (λ f. from-call Number [] (signed f)) number
 
 no-number : reply three-by-four (bytes "N 3E4") ≡ says Refused (in-signs (5 ∷ []))
 unfolding reply request shaped fields same-bytes numeral is-number all-digits value-on in-signs
 no-number = refl
 
 too-high : reply three-by-four (bytes "N 12") ≡ says Refused (in-signs (3 ∷ []))
-unfolding three-by-four reply request shaped fields same-bytes numeral is-number all-digits value-on in-signs
-too-high = ap (from-call Cell []) (square-as-before 3 4 12 ∙ ap signed past-the-end)
+unfolding three-by-four reply request shaped fields same-bytes numeral is-number all-digits value-on in-signs accepted origin-accepted
+too-high = ap (from-call Cell []) past-the-end
 
 sets-it : after NoArea (bytes "AREA 3 4") ≡ three-by-four
 unfolding three-by-four after request shaped fields same-bytes numeral is-number all-digits value-on accepted origin-accepted
 sets-it = refl
 
 keeps-it : (line : List ℕ) → begins line AREA ≡ false → begins line ORIGIN ≡ false → after three-by-four line ≡ three-by-four
-keeps-it line e f = others-alter-nothing three-by-four line neither
+unfolding three-by-four accepted origin-accepted
+keeps-it line e f = others-alter-nothing three-by-four line neither ∙ in-force (at-post 3 4) refl
   where
     neither : Begun line → ⊥
     neither (inl area) = false≢true (sym e ∙ ap (λ b. same-bytes b AREA) area ∙ same-itself AREA)

@@ -6,9 +6,10 @@ use mathlib.Core.Path.{_≡_, ap}
 use Prim.Native.Nat.{ℕ, _+_, _≤_}
 use native.Mathlib.Omega.{arith}
 use lib.ListN.{getD, replicate}
-use Rattle.terms.proofs.Ones.{one-equation}
+use Rattle.terms.proofs.OneAnswer.{one-equation}
 use Rattle.words.specs.Words.{all-digits, value-on, is-number, numeral, same-bytes}
-use Rattle.lines.specs.Lines.{fields, shaped, request}
+use Rattle.fields.specs.Fields.{fields}
+use Rattle.lines.specs.Lines.{shaped, request}
 use Rattle.clerk.specs.declared.Clerk.the-variants.{NoArea}
 use Rattle.clerk.specs.Clerk.{Said, after, reply}
 use Rattle.words.specs.Decimal.{decimal-by, decimal}

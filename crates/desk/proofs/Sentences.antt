@@ -7,7 +7,7 @@ use native.Mathlib.Omega.{arith}
 use borrow.Author.Tests.{le-leb, lt-leb, ne-eqb}
 use lib.ListN.{length, getD, take}
 use Rattle.words.specs.Letters.{bytes}
-use Rattle.lines.specs.Lines.{onto}
+use Rattle.fields.specs.Fields.{onto}
 use Rattle.words.specs.Decimal.{decimal-by, decimal}
 use Rattle.clerk.specs.declared.Clerk.{Clerk}
 use Rattle.clerk.specs.declared.Clerk.the-variants.{NoArea}

@@ -10,7 +10,7 @@ use borrow.Author.Tests.{ltb-true, ltb-false, leb-true, leb-false, le-leb, lt-le
 use lib.Dec.{leb, ltb, eqb}
 use lib.ListN.{length, take, drop, set}
 use lib.Seq.{take-suc-set, take-append-le, length-take-le}
-use Rattle.lines.specs.Lines.{onto}
+use Rattle.fields.specs.Fields.{onto}
 use Rattle.clerk.specs.declared.Clerk.{Clerk}
 use Rattle.clerk.specs.Clerk.{after, reply}
 use Rattle.clerk.proofs.Promises.{reply-kept, after-kept}
@@ -19,7 +19,7 @@ use Rattle.desk.specs.declared.Desk.{Desk}
 use Rattle.desk.specs.Desk.{last-answered, lines-of, answers, output}
 use Rattle.desk.specs.Steps.{kept-bytes, begun-line, reply-text, at-first, next-desk, next-kept, prints, prints-last}
 use Rattle.desk.specs.Steps.{Result, still, onward, fed, in-order, fed-any, prints-last-any}
-use Rattle.desk.specs.Runs.{Printed, ended, closed, piece-fed}
+use Rattle.desk.specs.Pieces.{Printed, ended, closed, piece-fed}
 use Rattle.desk.proofs.Feeding.{still-ordered, kept-length, fed-after}
 use Rattle.desk.proofs.Progress.{is-fed, fed-in-order}
 use Rattle.desk.proofs.Bytes.{ordered, in-order-is, when-closed, at-the-stop, at-a-newline, at-a-byte}
@@ -196,22 +196,22 @@ last-due d kept few room = ap (cond (d .closed) []) (by (eqb (d .begun) 0) refl)
 printed-due : {d : Desk} {kept input printed : List ℕ} → Printed d kept input printed → in-order d kept ≡ true → printed ≡ pending d kept input
 printed-due (ended d kept) ok = let both = ordered d kept ok in rw ok (sym (last-due d kept (both .0) (both .1)))
 printed-due (closed d kept input o) ok = sym (rw o)
-printed-due (piece-fed d kept at size piece rest printed run) ok =
+printed-due (piece-fed d kept at size piece rest printed feeding) ok =
     let both = ordered d kept ok in
     let left = piece-due d kept at size piece rest (both .0) (both .1) in
-    ap (λ zs. fed-any d kept at size piece .printed ++ zs) (printed-due run (fed-in-order d kept ok at size piece))
+    ap (λ zs. fed-any d kept at size piece .printed ++ zs) (printed-due feeding (fed-in-order d kept ok at size piece))
     ∙ sym (subst (λ (r : Result). Left r d kept piece rest) (sym (is-fed d kept ok at size piece)) left)
 
 -- From the first byte on it is what the definition over the whole input says, so it does not depend on how the input was cut.
 pub whole-printed : {kept input printed : List ℕ} → kept-bytes ≤ length kept → Printed at-first kept input printed → printed ≡ output input
 unfolding output joined
-whole-printed {kept} room run = printed-due run (in-order-is at-first kept (omega arith) room)
+whole-printed {kept} room feeding = printed-due feeding (in-order-is at-first kept (omega arith) room)
 
 pub however-cut : {kept kept′ input one other : List ℕ} → kept-bytes ≤ length kept → kept-bytes ≤ length kept′
     → Printed at-first kept input one → Printed at-first kept′ input other → one ≡ other
-however-cut room room′ run run′ = whole-printed room run ∙ sym (whole-printed room′ run′)
+however-cut room room′ feeding feeding′ = whole-printed room feeding ∙ sym (whole-printed room′ feeding′)
 
--- Every input has a run, so that the theorems above are about something: byte by byte, into an output of any size that has room for the longest text.
+-- Every input has a feeding, so that the theorems above are about something: byte by byte, into an output of any size that has room for the longest text.
 module _ (size : ℕ) (room : longest ≤ size) where
   one-taken : (d : Desk) (kept : List ℕ) → in-order d kept ≡ true → (b : ℕ) → fed-any d kept 0 size (b ∷ []) .taken ≡ 1
   unfolding fed
@@ -228,5 +228,5 @@ module _ (size : ℕ) (room : longest ≤ size) where
 
 pub every-input : (kept input : List ℕ) → kept-bytes ≤ length kept → Printed at-first kept input (output input)
 every-input kept input room =
-    let run = byte-by-byte longest (le-refl longest) at-first kept input (in-order-is at-first kept (omega arith) room) in
-    subst (λ (zs : List ℕ). Printed at-first kept input zs) (whole-printed room (run .1)) (run .1)
+    let feeding = byte-by-byte longest (le-refl longest) at-first kept input (in-order-is at-first kept (omega arith) room) in
+    subst (λ (zs : List ℕ). Printed at-first kept input zs) (whole-printed room (feeding .1)) (feeding .1)

@@ -1,3 +1,3 @@
 pub mod Desk
 pub mod Steps
-pub mod Runs
+pub mod Pieces

@@ -86,7 +86,7 @@ fn reply_begun(desk: Desk, kept: &[u8], out: &mut [u8], at: usize) -> Replied
     requires place { ⌜ kept-bytes ≤ length (now kept) ⌝ }
     ensures left { λ r. ⌜ r .clerk ≡ after (desk .clerk) (begun-line desk (now (kept .entry))) ⌝ }
     ensures written { λ r. ⌜ Writes (now (out .entry)) at (if-room (now (out .entry)) at (reply-text desk (now (kept .entry)))) (now (out .exit)) (r .at) ⌝ }
-    ensures near { λ r. ⌜ r .at ≤ at + longest ⌝ }
+    ensures short { λ r. ⌜ r .at ≤ at + longest ⌝ }
 {
     let clerk = desk.clerk;
     let begun = desk.begun;
@@ -107,7 +107,7 @@ fn answer(desk: Desk, kept: &[u8], out: &mut [u8], at: usize) -> Stepped
     requires answered { ⌜ desk .line ≤ last-answered ⌝ }
     ensures next { λ r. ⌜ r .desk ≡ behind-newline desk (now (kept .entry)) ⌝ }
     ensures written { λ r. ⌜ Writes (now (out .entry)) at (if-room (now (out .entry)) at (reply-text desk (now (kept .entry)))) (now (out .exit)) (r .at) ⌝ }
-    ensures near { λ r. ⌜ r .at ≤ at + longest ⌝ }
+    ensures short { λ r. ⌜ r .at ≤ at + longest ⌝ }
 {
     let replied = reply_begun(desk, kept, out, at);
     let clerk = replied.clerk;
@@ -131,7 +131,7 @@ fn step(desk: Desk, kept: &mut [u8], b: u8, out: &mut [u8], at: usize) -> Steppe
     ensures next { λ r. ⌜ r .desk ≡ next-desk desk (now (kept .entry)) b ⌝ }
     ensures stored { λ r. ⌜ now (kept .exit) ≡ next-kept desk (now (kept .entry)) b ⌝ }
     ensures written { λ r. ⌜ Writes (now (out .entry)) at (prints desk (now (kept .entry)) b) (now (out .exit)) (r .at) ⌝ }
-    ensures near { λ r. ⌜ r .at ≤ at + longest ⌝ }
+    ensures short { λ r. ⌜ r .at ≤ at + longest ⌝ }
 {
     if desk.closed {
         return Stepped { desk: desk, at: at };
@@ -215,7 +215,7 @@ pub fn feed(
 // Answers the line that is begun, at the end of the input, or says STOP for a line 65,536.
 pub fn finish(desk: Desk, kept: &[u8], out: &mut [u8], at: usize) -> usize
     ensures written { λ r. ⌜ Writes (now (out .entry)) at (if-room (now (out .entry)) at (prints-last-any desk (now (kept .entry)))) (now (out .exit)) r ⌝ }
-    ensures near { λ r. ⌜ r ≤ at + longest ⌝ }
+    ensures short { λ r. ⌜ r ≤ at + longest ⌝ }
 {
     if !is_in_order(desk, kept) {
         return at;

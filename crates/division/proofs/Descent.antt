@@ -18,7 +18,7 @@ use Rattle.division.proofs.Plane.{one-le, moved-add, moved-none}
 use Rattle.division.proofs.Sums.{total, total-all, total-append, count-joined, length-joined, flatten-append, none-of, all-left, all-right}
 use Rattle.division.proofs.Cuts.{area, areas, inside-parts, holds-parts}
 use Rattle.division.proofs.Places.{place-left, place-right}
-use Rattle.division.proofs.Once.{length-curve, once}
+use Rattle.division.proofs.EachSquareOnce.{length-curve, once}
 use Rattle.division.proofs.Blocks.{bounded, holding-rule}
 
 -- 1 where a block holds the square

@@ -1,6 +1,6 @@
 -- A square's place in a list that holds it once, and the square at a place: each is the other's way back.
 use mathlib.Core.Bool.{Bool, true, false, and-eq-true-iff, cond}
-use mathlib.Core.List.{List, [], _∷_, _++_}
+use mathlib.Core.List.{List, [], _∷_, _++_, map}
 use mathlib.Core.Path.{_≡_, refl, sym, ap, _∙_}
 use Prim.Native.Nat.{ℕ, zero, suc, _+_, _≤_, _<_}
 use native.Mathlib.Nat.{le-of-suc-le-suc, zero-add, suc-add}
@@ -77,3 +77,9 @@ pub place-right : (p : Square) (zs ys : List Square) → count (same p) zs ≡ 0
 unfolding count place-in
 place-right p [] ys l = sym (zero-add (place-in ys p))
 place-right p (z ∷ zs) ys l = right-by p z zs ys (same p z) refl l (place-right p zs ys)
+
+-- what stands at a place of a list, when each square of it is made into something
+pub getD-map-in : {X : Type 0} (f : Square → X) (zs : List Square) (n : ℕ) (d : X) (z : Square) → n < length zs → getD (map f zs) n d ≡ f (getD zs n z)
+getD-map-in f [] n d z l = absurd (omega arith)
+getD-map-in f (x ∷ zs) zero d z l = refl
+getD-map-in f (x ∷ zs) (suc n) d z l = getD-map-in f zs n d z (le-of-suc-le-suc l)

@@ -21,6 +21,7 @@ use Rattle.division.specs.declared.Choice.{Choice}
 use Rattle.division.specs.declared.Choice.the-variants.{StraightRun, StraightSide, LongCut, UCut}
 pub mod Worked
 pub mod Telling
+pub mod SingleCuts
 pub mod Inside
 
 -- "Squares are (x, y)."

@@ -15,8 +15,8 @@ use Rattle.clerk.specs.declared.Clerk.{Clerk}
 use Rattle.clerk.specs.Clerk.{Said, after, reply}
 use Rattle.tables.specs.Tables.{unless-refused, fill}
 use Rattle.terms.proofs.Signs.{held, kept}
-use Rattle.exports.specs.Boundary.{returned, written, left, filled, area-at, window-at}
-use Rattle.exports.specs.Handling.{area-of, handled-figures, handled-by}
+use Rattle.boundary.specs.Boundary.{returned, written, left, filled, area-at, window-at}
+use Rattle.boundary.specs.Handling.{area-of, handled-figures, handled-by}
 
 -- a 32-bit number is itself among signed ones of 64
 pub wide-number : {n : ℕ} → Fits w32 n → toZ w64 n ≡ pos n

@@ -4,6 +4,7 @@
 // A call that answers several values takes a slice for them. It returns the refusal's number, 0 for none, and writes the values to the slice's first
 // places, 0 each where it is refused, but for the area in force that a line leaves and the number of runs that have no room. A slice that is too short is
 // left as it is, and 255 is returned, which is no refusal's number.
+use boundary::SHORT;
 use clerk::Clerk;
 use clerk::Reply;
 use curve::FinishAnswer;
@@ -22,15 +23,11 @@ ghost use lib.IntN.{pos};
 ghost use lib.ListN.{length, take, drop};
 ghost use Rattle.terms.specs.Terms.{most-blocks};
 ghost use Rattle.clerk.specs.Clerk.{said};
-ghost use Rattle.curve.specs.Grid.{number-to-square-at, square-to-number-at, finish-square-at};
-ghost use Rattle.tables.specs.Tables.{by-number, by-square, fill, fill-figures, check, check-figures};
+ghost use Rattle.tables.specs.Tables.{fill-figures, check-figures};
 ghost use Rattle.windows.specs.Windows.{runs-figures};
-ghost use Rattle.windows.specs.Grid.{runs-for-window-at, slice-after-at};
-ghost use Rattle.exports.specs.Boundary.{returned, written, left, filled, area-at, window-at};
-ghost use Rattle.exports.specs.Handling.{area-of, shown, refusal-said, state, handled-figures, handled};
-
-// What a call returns where its slice is too short.
-const SHORT: u32 = 255;
+ghost use Rattle.boundary.specs.Handling.{area-of, shown, refusal-said, state, handled-figures};
+ghost use Rattle.boundary.specs.Calls.{number-to-square-call, square-to-number-call, finish-square-call, runs-for-window-call, handle-line-call};
+ghost use Rattle.boundary.specs.Calls.{fill-by-number-call, fill-by-square-call, check-by-number-call, check-by-square-call};
 
 // The first two, or three, places of a slice.
 fn put_two(result: &mut [u32], x: u32, y: u32)
@@ -78,8 +75,8 @@ pub extern "C" fn uvalinda_number_to_square(
     number: u32,
     result: &mut [i32],
 ) -> u32
-    ensures returned { λ r. ⌜ r ≡ returned 3 (number-to-square-at (area-at w h ox oy) number) (now (result .entry)) ⌝ }
-    ensures values { λ r. ⌜ now (result .exit) ≡ written 3 (number-to-square-at (area-at w h ox oy) number) (now (result .entry)) ⌝ }
+    ensures returned { λ r. ⌜ r ≡ number-to-square-call w h ox oy number (now (result .entry)) .returned ⌝ }
+    ensures values { λ r. ⌜ now (result .exit) ≡ number-to-square-call w h ox oy number (now (result .entry)) .values ⌝ }
 {
     if result.len() < 3 {
         return SHORT;
@@ -108,8 +105,8 @@ pub extern "C" fn uvalinda_square_to_number(
     y: i32,
     result: &mut [u32],
 ) -> u32
-    ensures returned { λ r. ⌜ r ≡ returned 2 (square-to-number-at (area-at w h ox oy) x y) (now (result .entry)) ⌝ }
-    ensures values { λ r. ⌜ now (result .exit) ≡ written 2 (square-to-number-at (area-at w h ox oy) x y) (now (result .entry)) ⌝ }
+    ensures returned { λ r. ⌜ r ≡ square-to-number-call w h ox oy x y (now (result .entry)) .returned ⌝ }
+    ensures values { λ r. ⌜ now (result .exit) ≡ square-to-number-call w h ox oy x y (now (result .entry)) .values ⌝ }
 {
     if result.len() < 2 {
         return SHORT;
@@ -136,8 +133,8 @@ pub extern "C" fn uvalinda_finish_square(
     oy: i32,
     result: &mut [i32],
 ) -> u32
-    ensures returned { λ r. ⌜ r ≡ returned 2 (finish-square-at (area-at w h ox oy)) (now (result .entry)) ⌝ }
-    ensures values { λ r. ⌜ now (result .exit) ≡ written 2 (finish-square-at (area-at w h ox oy)) (now (result .entry)) ⌝ }
+    ensures returned { λ r. ⌜ r ≡ finish-square-call w h ox oy (now (result .entry)) .returned ⌝ }
+    ensures values { λ r. ⌜ now (result .exit) ≡ finish-square-call w h ox oy (now (result .entry)) .values ⌝ }
 {
     if result.len() < 2 {
         return SHORT;
@@ -181,9 +178,9 @@ pub extern "C" fn uvalinda_fill_by_number(
     table: &mut [u32],
     blocks: &mut [u64],
 ) -> u32
-    ensures returned { λ r. ⌜ r ≡ returned 1 (fill w h (now (table .entry))) (now (blocks .entry)) ⌝ }
-    ensures count { λ r. ⌜ now (blocks .exit) ≡ written 1 (fill w h (now (table .entry))) (now (blocks .entry)) ⌝ }
-    ensures table { λ r. ⌜ now (table .exit) ≡ filled (fill w h (now (table .entry))) (by-number w h) (now (table .entry)) (now (blocks .entry)) ⌝ }
+    ensures returned { λ r. ⌜ r ≡ fill-by-number-call w h (now (table .entry)) (now (blocks .entry)) .returned ⌝ }
+    ensures count { λ r. ⌜ now (blocks .exit) ≡ fill-by-number-call w h (now (table .entry)) (now (blocks .entry)) .values ⌝ }
+    ensures table { λ r. ⌜ now (table .exit) ≡ fill-by-number-call w h (now (table .entry)) (now (blocks .entry)) .lent ⌝ }
 {
     if blocks.len() < 1 {
         return SHORT;
@@ -200,9 +197,9 @@ pub extern "C" fn uvalinda_fill_by_square(
     table: &mut [u32],
     blocks: &mut [u64],
 ) -> u32
-    ensures returned { λ r. ⌜ r ≡ returned 1 (fill w h (now (table .entry))) (now (blocks .entry)) ⌝ }
-    ensures count { λ r. ⌜ now (blocks .exit) ≡ written 1 (fill w h (now (table .entry))) (now (blocks .entry)) ⌝ }
-    ensures table { λ r. ⌜ now (table .exit) ≡ filled (fill w h (now (table .entry))) (by-square w h) (now (table .entry)) (now (blocks .entry)) ⌝ }
+    ensures returned { λ r. ⌜ r ≡ fill-by-square-call w h (now (table .entry)) (now (blocks .entry)) .returned ⌝ }
+    ensures count { λ r. ⌜ now (blocks .exit) ≡ fill-by-square-call w h (now (table .entry)) (now (blocks .entry)) .values ⌝ }
+    ensures table { λ r. ⌜ now (table .exit) ≡ fill-by-square-call w h (now (table .entry)) (now (blocks .entry)) .lent ⌝ }
 {
     if blocks.len() < 1 {
         return SHORT;
@@ -236,8 +233,8 @@ fn tell_check(answer: CheckAnswer, result: &mut [u32]) -> u32
 // Checks a table by number.
 #[no_mangle]
 pub extern "C" fn uvalinda_check_by_number(w: u32, h: u32, table: &[u32], result: &mut [u32]) -> u32
-    ensures returned { λ r. ⌜ r ≡ returned 3 (check w h (by-number w h) (now (table .entry))) (now (result .entry)) ⌝ }
-    ensures values { λ r. ⌜ now (result .exit) ≡ written 3 (check w h (by-number w h) (now (table .entry))) (now (result .entry)) ⌝ }
+    ensures returned { λ r. ⌜ r ≡ check-by-number-call w h (now (table .entry)) (now (result .entry)) .returned ⌝ }
+    ensures values { λ r. ⌜ now (result .exit) ≡ check-by-number-call w h (now (table .entry)) (now (result .entry)) .values ⌝ }
 {
     if result.len() < 3 {
         return SHORT;
@@ -249,8 +246,8 @@ pub extern "C" fn uvalinda_check_by_number(w: u32, h: u32, table: &[u32], result
 // Checks a table by square.
 #[no_mangle]
 pub extern "C" fn uvalinda_check_by_square(w: u32, h: u32, table: &[u32], result: &mut [u32]) -> u32
-    ensures returned { λ r. ⌜ r ≡ returned 3 (check w h (by-square w h) (now (table .entry))) (now (result .entry)) ⌝ }
-    ensures values { λ r. ⌜ now (result .exit) ≡ written 3 (check w h (by-square w h) (now (table .entry))) (now (result .entry)) ⌝ }
+    ensures returned { λ r. ⌜ r ≡ check-by-square-call w h (now (table .entry)) (now (result .entry)) .returned ⌝ }
+    ensures values { λ r. ⌜ now (result .exit) ≡ check-by-square-call w h (now (table .entry)) (now (result .entry)) .values ⌝ }
 {
     if result.len() < 3 {
         return SHORT;
@@ -295,12 +292,9 @@ pub extern "C" fn uvalinda_runs_for_window(
     runs: &mut [u32],
     result: &mut [u32],
 ) -> u32
-    ensures returned { λ r. ⌜ r
-        ≡ returned 1 (runs-for-window-at (area-at w h ox oy) (window-at x0 y0 x1 y1) (now (runs .entry))) (now (result .entry)) ⌝ }
-    ensures count { λ r. ⌜ now (result .exit)
-        ≡ written 1 (runs-for-window-at (area-at w h ox oy) (window-at x0 y0 x1 y1) (now (runs .entry))) (now (result .entry)) ⌝ }
-    ensures runs { λ r. ⌜ now (runs .exit)
-        ≡ left (slice-after-at (area-at w h ox oy) (window-at x0 y0 x1 y1) (now (runs .entry))) (now (runs .entry)) (now (result .entry)) ⌝ }
+    ensures returned { λ r. ⌜ r ≡ runs-for-window-call w h ox oy x0 y0 x1 y1 (now (runs .entry)) (now (result .entry)) .returned ⌝ }
+    ensures count { λ r. ⌜ now (result .exit) ≡ runs-for-window-call w h ox oy x0 y0 x1 y1 (now (runs .entry)) (now (result .entry)) .values ⌝ }
+    ensures runs { λ r. ⌜ now (runs .exit) ≡ runs-for-window-call w h ox oy x0 y0 x1 y1 (now (runs .entry)) (now (result .entry)) .lent ⌝ }
 {
     if result.len() < 1 {
         return SHORT;
@@ -430,8 +424,8 @@ pub extern "C" fn uvalinda_handle_line(
     line: &[u8],
     result: &mut [i64],
 ) -> u32
-    ensures returned { λ r. ⌜ r ≡ returned 8 (handled w h ox oy (now (line .entry))) (now (result .entry)) ⌝ }
-    ensures values { λ r. ⌜ now (result .exit) ≡ written 8 (handled w h ox oy (now (line .entry))) (now (result .entry)) ⌝ }
+    ensures returned { λ r. ⌜ r ≡ handle-line-call w h ox oy (now (line .entry)) (now (result .entry)) .returned ⌝ }
+    ensures values { λ r. ⌜ now (result .exit) ≡ handle-line-call w h ox oy (now (line .entry)) (now (result .entry)) .values ⌝ }
 {
     if result.len() < 8 {
         return SHORT;

@@ -12,8 +12,8 @@ use Rattle.division.specs.Forms.{block}
 use Rattle.division.proofs.Cases.{rule}
 use Rattle.division.proofs.Blocks.{few-blocks}
 use Rattle.leaves.specs.Walk.{exchanged, Fits}
-use Rattle.leaves.proofs.Runs.{run-count}
-use Rattle.leaves.proofs.Parts.{Cut, side-call}
+use Rattle.leaves.proofs.Straight.{run-count}
+use Rattle.leaves.proofs.PartByPart.{Cut, side-call}
 
 -- a count of blocks is a 64-bit number
 pub few : {w h : ℕ} {t : List ℕ} {k : Block} {at : ℕ} → Fits w h t k at → length (blocks k) < 8589934592

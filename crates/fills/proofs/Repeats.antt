@@ -11,7 +11,7 @@ use Rattle.division.specs.declared.Placed.{Placed}
 use Rattle.division.specs.Division.{Block, even-half, First, Second, A, C, part, curve}
 use Rattle.division.specs.Forms.{block}
 use Rattle.leaves.specs.Walk.{place, filled-with, Fits}
-use Rattle.leaves.proofs.Parts.{Cut, first-call, a-call}
+use Rattle.leaves.proofs.PartByPart.{Cut, first-call, a-call}
 use Rattle.copies.specs.Copies.{Held, Again}
 use Rattle.copies.proofs.Entered.{over-held, held-on}
 use Rattle.copies.proofs.Siblings.{second-again, c-again}

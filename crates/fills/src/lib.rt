@@ -56,8 +56,8 @@ fn fill_choice(
     };
     let case = division::choose(a, b);
     match case {
-        Choice::StraightRun => leaves::fill_run(table, k, area, at, by_square),
-        Choice::StraightSide => leaves::fill_run(
+        Choice::StraightRun => leaves::fill_straight(table, k, area, at, by_square),
+        Choice::StraightSide => leaves::fill_straight(
             table,
             leaves::exchanged_block(k),
             area,

@@ -9,10 +9,10 @@ use lib.ListN.{length, length-set, length-map}
 use Rattle.terms.specs.Terms.{longest-side, past-32-bits}
 use Rattle.division.specs.Division.{Square, Block, Direction, moved, row}
 use Rattle.division.specs.Division.Inside.{Inside}
-use Rattle.division.proofs.Once.{row-length}
+use Rattle.division.proofs.EachSquareOnce.{row-length}
 use Rattle.division.proofs.Descent.{row-more}
-use Rattle.division.proofs.Local.{Within}
-use Rattle.division.proofs.Walks.{inside-grow, product-limit}
+use Rattle.division.proofs.Coordinates.{Within}
+use Rattle.division.proofs.WithinLimits.{inside-grow, product-limit}
 use Rattle.leaves.specs.Walk.{place, over, enter-one, Fits}
 
 -- a square's place in a table of either kind

@@ -12,9 +12,10 @@ use Rattle.division.specs.Division.{Square, square, Block, whole, moved, curve,
 use Rattle.division.specs.Division.Inside.{Inside}
 use Rattle.division.specs.Forms.{direction, block, stepped-to}
 use Rattle.division.proofs.Plane.{moved-none}
-use Rattle.division.proofs.Local.{spot, spot-inside, curve-alike}
+use Rattle.division.proofs.Coordinates.{spot, spot-inside}
+use Rattle.division.proofs.SameLengths.{curve-alike}
 use Rattle.division.proofs.Small.{two-deep, three-deep, blocks-two, blocks-three}
-use Rattle.division.proofs.Walks.{side-moved}
+use Rattle.division.proofs.PlacedParts.{side-moved}
 use Rattle.leaves.specs.Walk.{place, over, over-block, near, far, Fits}
 use Rattle.leaves.proofs.Entries.{place-below, squares-fit}
 

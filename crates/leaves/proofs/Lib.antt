@@ -1,5 +1,5 @@
 pub mod Entries
-pub mod Runs
+pub mod Straight
 pub mod Leaves
 pub mod Checks
-pub mod Parts
+pub mod PartByPart

@@ -30,7 +30,7 @@ fn enter(table: &mut [u32], n: u32, p: u32, by_square: bool)
 }
 
 // The squares of a straight block, which follow in its run.
-pub fn fill_run(table: &mut [u32], k: Placed, area: Area, at: u32, by_square: bool) -> u64
+pub fn fill_straight(table: &mut [u32], k: Placed, area: Area, at: u32, by_square: bool) -> u64
     requires { ⌜ Fits (area .w) (area .h) (now table) (block k) at × (choice (k .a) (k .b) ≡ StraightRun) ⌝ }
     ensures table { λ r. ⌜ now (table .exit) ≡ filled-with «by_square» (area .w) (now (table .entry)) (block k) at ⌝ }
     ensures count { λ r. ⌜ r ≡ length (blocks (block k)) ⌝ }
@@ -148,7 +148,14 @@ fn compare(table: &[u32], n: u32, p: u32, by_square: bool, least: u64) -> u64
 }
 
 // The squares of a straight block, which follow in its run.
-pub fn check_run(table: &[u32], k: Placed, area: Area, at: u32, by_square: bool, so_far: u64) -> u64
+pub fn check_straight(
+    table: &[u32],
+    k: Placed,
+    area: Area,
+    at: u32,
+    by_square: bool,
+    so_far: u64,
+) -> u64
     requires { ⌜ Fits (area .w) (area .h) (now table) (block k) at × (choice (k .a) (k .b) ≡ StraightRun) ⌝ }
     ensures { λ r. ⌜ r ≡ checked «by_square» (area .w) (now (table .entry)) (block k) at «so_far» ⌝ }
 {

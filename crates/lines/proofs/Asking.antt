@@ -2,6 +2,7 @@
 -- shape with a field that is no number is refusal 5, and one of no known shape 6. The fields of a line with spaces between them are the line.
 use mathlib.Core.Bool.{Bool, true, false, not, cond, _&&_, _||_, and-eq-true-iff}
 use mathlib.Core.List.{List, [], _∷_, _++_}
+use mathlib.Core.Logic.{_⊎_, inl, inr}
 use mathlib.Core.Option.{Option, none, some}
 use mathlib.Core.Path.{_≡_, refl, sym, ap, ap₂, subst, subst⁻¹, _∙_}
 use Prim.Native.Nat.{ℕ, _≤_}
@@ -14,13 +15,14 @@ use Rattle.terms.specs.declared.Refusal.the-variants.{NotANumber, WrongShape, L
 use Rattle.lines.specs.declared.Request.{Request}
 use Rattle.lines.specs.declared.Request.the-variants.{SetArea, SetOrigin, AskNumber, AskSquare, Refused}
 use Rattle.words.specs.Words.{same-bytes}
-use Rattle.lines.specs.Lines.{onto, fields, AREA, ORIGIN, N, S, number, signed-number, is-empty, by-one, by-two, of-two, two-fields, three-fields}
+use Rattle.fields.specs.Fields.{onto, fields}
+use Rattle.lines.specs.Lines.{AREA, ORIGIN, N, S, number, signed-number, is-empty, by-one, by-two, of-two, two-fields, three-fields}
 use Rattle.lines.specs.Lines.{shaped, request, asked, Says-two, Says}
-use Rattle.lines.specs.Reading.{word}
+use Rattle.fields.specs.Reading.{up-to-space}
 use Rattle.words.proofs.Same.{same-true}
 use Rattle.lines.proofs.Spelt.{spaceless, Filled, Way, plain, signed}
 use Rattle.lines.proofs.Shapes.{not-empty}
-use Rattle.lines.proofs.Sequence.{rest, fields-are}
+use Rattle.fields.proofs.Sequence.{rest, fields-are}
 
 -- Fields with a space between each two.
 unfoldable pub between : List (List ℕ) → List ℕ
@@ -106,7 +108,7 @@ says-so line = by (leb (length line) 64)
     by : (t : Bool) → Says (cond t (shaped (fields line)) (Refused LongLine)) line
     by true =
         subst⁻¹ (λ (fs : List (List ℕ)). Says (shaped fs) line) (fields-are line)
-        (shape-says line (word line) (rest line) (sym (between-fields line) ∙ ap between (fields-are line)))
+        (shape-says line (up-to-space line) (rest line) (sym (between-fields line) ∙ ap between (fields-are line)))
     by false = tt
 
 no-space : (b : ℕ) (t : Bool) → (not (eqb b 32) && t) ≡ true → (eqb b 32 ≡ false) × (t ≡ true)
@@ -171,7 +173,7 @@ number-line f filled l =
     (λ i e. is ∙ ap (by-one AskNumber) e, λ e. is ∙ ap (by-one AskNumber) e)
 
 -- a word with two fields after it
-abbrev with-two : (known f g : List ℕ) → List ℕ
+abbrev pub with-two : (known f g : List ℕ) → List ℕ
 with-two known f g = known ++ (32 ∷ (f ++ (32 ∷ g)))
 
 module _ (f g : List ℕ) (filled : Filled f) (filled′ : Filled g) where
@@ -221,58 +223,60 @@ both-not : (s t : Bool) → (s || t) ≡ false → (s ≡ false) × (t ≡ false
 both-not false t e = (refl, e)
 both-not true t e = absurd (let z : _≡_ {A = ℕ} 0 1 = cc in omega arith)
 
--- so a line of no known shape is refusal 6, by how many fields it has
-module _ (line first : List ℕ) (unshaped : Shaped line → ⊥) where
-  no-one : (a : List ℕ) → spaceless a ≡ true → line ≡ first ++ (32 ∷ a) → two-fields first a ≡ Refused WrongShape
-  no-one a whole is = by (same-bytes first N) (is-empty a) refl refl
+-- so a line has a known shape or is refusal 6, by how many fields it has
+module _ (line first : List ℕ) where
+  one-or-none : (a : List ℕ) → spaceless a ≡ true → line ≡ first ++ (32 ∷ a) → Shaped line ⊎ (two-fields first a ≡ Refused WrongShape)
+  one-or-none a whole is = by (same-bytes first N) (is-empty a) refl refl
     where
       by : (known empty : Bool) → same-bytes first N ≡ known → is-empty a ≡ empty
-          → cond known (cond empty (Refused WrongShape) (by-one AskNumber (number a))) (Refused WrongShape) ≡ Refused WrongShape
-      by false empty e f = refl
-      by true true e f = refl
-      by true false e f =
-          absurd (unshaped (n-shaped a (record { any = empty-not a f; whole = whole }) (is ∙ ap (λ w. w ++ (32 ∷ a)) (same-true first N e))))
+          → Shaped line ⊎ (cond known (cond empty (Refused WrongShape) (by-one AskNumber (number a))) (Refused WrongShape) ≡ Refused WrongShape)
+      by false empty e f = inr refl
+      by true true e f = inr refl
+      by true false e f = inl (n-shaped a (record { any = empty-not a f; whole = whole }) (is ∙ ap (λ w. w ++ (32 ∷ a)) (same-true first N e)))
 
   module _ (a b : List ℕ) (whole : spaceless a ≡ true) (whole′ : spaceless b ≡ true) (is : line ≡ first ++ (32 ∷ (a ++ (32 ∷ b)))) where
-    an-empty : {A : Type 0} (read : List ℕ → Option A) (asked : A → A → Request) → (Filled a → Filled b → ⊥) → of-two read asked a b ≡ Refused WrongShape
-    an-empty read asked not-both = by (is-empty a || is-empty b) refl
+    filled-or-none : {A : Type 0} (read : List ℕ → Option A) (asked : A → A → Request) → (Filled a → Filled b → Shaped line)
+        → Shaped line ⊎ (of-two read asked a b ≡ Refused WrongShape)
+    filled-or-none read asked if-both = by (is-empty a || is-empty b) refl
       where
-        by : (empty : Bool) → (is-empty a || is-empty b) ≡ empty → cond empty (Refused WrongShape) (by-two asked (read a) (read b)) ≡ Refused WrongShape
-        by true e = refl
+        by : (empty : Bool) → (is-empty a || is-empty b) ≡ empty
+            → Shaped line ⊎ (cond empty (Refused WrongShape) (by-two asked (read a) (read b)) ≡ Refused WrongShape)
+        by true e = inr refl
         by false e =
             let each = both-not (is-empty a) (is-empty b) e in
-            absurd (not-both (record { any = empty-not a (each .0); whole = whole }) (record { any = empty-not b (each .1); whole = whole′ }))
+            inl (if-both (record { any = empty-not a (each .0); whole = whole }) (record { any = empty-not b (each .1); whole = whole′ }))
 
     said : (known : List ℕ) → same-bytes first known ≡ true → line ≡ with-two known a b
     said known e = is ∙ ap (λ w. w ++ (32 ∷ (a ++ (32 ∷ b)))) (same-true first known e)
 
-    no-two : three-fields first a b ≡ Refused WrongShape
-    no-two = by (same-bytes first AREA) (same-bytes first ORIGIN) (same-bytes first S) refl refl refl
+    two-or-none : Shaped line ⊎ (three-fields first a b ≡ Refused WrongShape)
+    two-or-none = by (same-bytes first AREA) (same-bytes first ORIGIN) (same-bytes first S) refl refl refl
       where
         by : (t u v : Bool) → same-bytes first AREA ≡ t → same-bytes first ORIGIN ≡ u → same-bytes first S ≡ v
-            → cond t (of-two number SetArea a b)
+            → Shaped line
+            ⊎ (cond t (of-two number SetArea a b)
             (cond u (of-two signed-number SetOrigin a b) (cond v (of-two signed-number AskSquare a b) (Refused WrongShape)))
-            ≡ Refused WrongShape
-        by true u v e f g = an-empty number SetArea (λ p q. unshaped (area-shaped a b p q (said AREA e)))
-        by false true v e f g = an-empty signed-number SetOrigin (λ p q. unshaped (origin-shaped a b p q (said ORIGIN f)))
-        by false false true e f g = an-empty signed-number AskSquare (λ p q. unshaped (s-shaped a b p q (said S g)))
-        by false false false e f g = refl
+            ≡ Refused WrongShape)
+        by true u v e f g = filled-or-none number SetArea (λ p q. area-shaped a b p q (said AREA e))
+        by false true v e f g = filled-or-none signed-number SetOrigin (λ p q. origin-shaped a b p q (said ORIGIN f))
+        by false false true e f g = filled-or-none signed-number AskSquare (λ p q. s-shaped a b p q (said S g))
+        by false false false e f g = inr refl
 
-  no-shape : (others : List (List ℕ)) → Spaceless others → line ≡ between (first ∷ others) → shaped (first ∷ others) ≡ Refused WrongShape
+  shape-or-none : (others : List (List ℕ)) → Spaceless others → line ≡ between (first ∷ others)
+      → Shaped line ⊎ (shaped (first ∷ others) ≡ Refused WrongShape)
   unfolding shaped between
-  no-shape [] all is = refl
-  no-shape (a ∷ []) all is = no-one a (all .0) is
-  no-shape (a ∷ b ∷ []) all is = no-two a b (all .0) (all .1 .0) is
-  no-shape (a ∷ b ∷ c ∷ others) all is = refl
+  shape-or-none [] all is = inr refl
+  shape-or-none (a ∷ []) all is = one-or-none a (all .0) is
+  shape-or-none (a ∷ b ∷ []) all is = two-or-none a b (all .0) (all .1 .0) is
+  shape-or-none (a ∷ b ∷ c ∷ others) all is = inr refl
 
 -- "An unknown first word, a missing, extra or empty field, or an empty line is refusal 6": any line of up to 64 bytes that has none of the four shapes.
-pub unshaped-line : (line : List ℕ) → length line ≤ 64 → (Shaped line → ⊥) → request line ≡ Refused WrongShape
+pub shaped-or-refused : (line : List ℕ) → length line ≤ 64 → Shaped line ⊎ (request line ≡ Refused WrongShape)
 unfolding request
-unshaped-line line l unshaped =
+shaped-or-refused line l =
     let all = subst Spaceless (fields-are line) (fields-spaceless line) in
-    rw (le-leb (length line) 64 l)
-    (ap shaped (fields-are line)
-    ∙ no-shape line (word line) unshaped (rest line) (all .1) (sym (between-fields line) ∙ ap between (fields-are line)))
+    let is = sym (between-fields line) ∙ ap between (fields-are line) in
+    rw (le-leb (length line) 64 l, fields-are line) (shape-or-none line (up-to-space line) (rest line) (all .1) is)
 
 -- `N i`, `AREA w h`, `ORIGIN ox oy` and `S x y`, in whichever spellings, ask for these numbers.
 pub number-spelt : (line : List ℕ) (n : ℕ) → Says (AskNumber n) line → request line ≡ AskNumber n

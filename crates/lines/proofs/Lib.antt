@@ -1,6 +1,5 @@
-pub mod FieldEnds
 pub mod Shapes
-pub mod Sequence
 pub mod Spelt
 pub mod Asking
+pub mod Refused
 pub mod Promises

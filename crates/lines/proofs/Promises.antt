@@ -4,8 +4,8 @@ use mathlib.Core.Path.{_≡_, refl, ap}
 use lib.Dec.{eqb}
 use lib.IntN.{pos, natAbs}
 use lib.ListN.{getD}
-use Rattle.terms.proofs.Laws.{named, named-back}
-use Rattle.terms.proofs.Ones.{by-figures}
+use Rattle.terms.proofs.Refusals.{named, named-back}
+use Rattle.terms.proofs.OneAnswer.{by-figures}
 use Rattle.lines.specs.declared.Request.{Request}
 use Rattle.lines.specs.declared.Request.the-variants.{SetArea, SetOrigin, AskNumber, AskSquare, Refused}
 use Rattle.lines.specs.Lines.{Asked, asked}

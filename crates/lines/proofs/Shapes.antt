@@ -1,22 +1,26 @@
--- What the fields after the word make of a line: an empty one is refusal 6, and one that is no number 5.
+-- What the fields make of a line. After the word an empty one is refusal 6, and one that is no number 5; fewer than two fields in all, or more than three,
+-- are refusal 6.
 use mathlib.Core.Bool.{Bool, true, false, _||_}
 use mathlib.Core.List.{List, [], _∷_}
 use mathlib.Core.Option.{Option}
 use mathlib.Core.Path.{_≡_, refl, sym, ap, ap₂, _∙_}
 use Prim.Native.Nat.{ℕ, _≤_, _<_}
 use native.Mathlib.Omega.{arith}
-use borrow.Author.Tests.{le-ltb}
+use borrow.Author.Tests.{le-leb, lt-leb, le-ltb}
 use lib.Dec.{ltb}
 use lib.ListN.{length}
-use Rattle.terms.specs.declared.Refusal.the-variants.{WrongShape}
+use Rattle.terms.specs.declared.Refusal.the-variants.{WrongShape, LongLine}
 use Rattle.words.specs.declared.Numeral.{Numeral}
 use Rattle.words.specs.declared.SignedNumeral.{SignedNumeral}
 use Rattle.lines.specs.declared.Request.{Request}
 use Rattle.lines.specs.declared.Request.the-variants.{Refused}
+use Rattle.fields.specs.Fields.{fields}
+use Rattle.fields.specs.Reading.{three-read, pieces}
+use Rattle.fields.proofs.Sequence.{two-or-three, taken-are}
 use Rattle.words.specs.Words.{numeral, numeral-figures}
 use Rattle.words.specs.Signed.{signed-numeral, signed-numeral-figures}
 use Rattle.words.proofs.Promises.{numeral-one, signed-one}
-use Rattle.lines.specs.Lines.{as-number, as-signed, number, signed-number, is-empty, by-one, of-one, by-two, of-two}
+use Rattle.lines.specs.Lines.{as-number, as-signed, number, signed-number, is-empty, by-one, of-one, by-two, of-two, shaped, request}
 
 -- the fields after the word
 empty : (s : List ℕ) → length s < 1 → is-empty s ≡ true
@@ -64,3 +68,20 @@ module _ {A : Type 0} (read : List ℕ → Option A) (asked : A → A → Reques
     -- the second field is not read
     pub second-unread : by-two asked m (read b) ≡ of-two read asked a b
     second-unread = two-there refl
+
+-- a line that is not too long asks what the fields that are taken of it make of it
+taken-shaped : (fs : List (List ℕ)) → shaped (two-or-three fs) ≡ shaped fs
+unfolding shaped
+taken-shaped [] = refl
+taken-shaped (f ∷ []) = refl
+taken-shaped (f ∷ g ∷ []) = refl
+taken-shaped (f ∷ g ∷ h ∷ []) = refl
+taken-shaped (f ∷ g ∷ h ∷ k ∷ fs) = refl
+
+pub short-line : (line : List ℕ) → length line ≤ 64 → shaped (pieces line (three-read line)) ≡ request line
+unfolding request
+short-line line l = ap shaped (taken-are line (omega arith)) ∙ taken-shaped (fields line) ∙ sym (rw (le-leb (length line) 64 l))
+
+pub long-line : (line : List ℕ) → 64 < length line → Refused LongLine ≡ request line
+unfolding request
+long-line line l = sym (rw (lt-leb (length line) 64 l))

@@ -5,7 +5,7 @@ use mathlib.Core.List.{List, [], _∷_, _++_}
 use mathlib.Core.Option.{Option, none, some}
 use mathlib.Core.Path.{_≡_}
 use Prim.Native.Nat.{ℕ}
-use lib.Dec.{leb, eqb}
+use lib.Dec.{leb}
 use lib.IntN.{ℤ, pos}
 use lib.ListN.{length}
 use Rattle.terms.specs.declared.Refusal.the-variants.{NotANumber, WrongShape, LongLine}
@@ -14,19 +14,10 @@ use Rattle.words.specs.declared.Numeral as Numerals
 use Rattle.words.specs.declared.SignedNumeral as SignedNumerals
 use Rattle.lines.specs.declared.Request.{Request}
 use Rattle.lines.specs.declared.Request.the-variants.{SetArea, SetOrigin, AskNumber, AskSquare, Refused}
+use Rattle.fields.specs.Fields.{fields}
 use Rattle.words.specs.Letters.{bytes}
 use Rattle.words.specs.Words.{numeral, Spells, same-bytes, begins}
 use Rattle.words.specs.Signed.{signed-numeral, SpellsSigned}
-
--- A byte put before the first of some pieces, or a piece of its own where there is none.
-abbrev pub onto : ℕ → List (List ℕ) → List (List ℕ)
-onto b [] = (b ∷ []) ∷ []
-onto b (f ∷ fs) = (b ∷ f) ∷ fs
-
--- "with exactly one space between fields": the fields of a line are what stands between its spaces (byte 32), and may be empty.
-unfoldable pub fields : List ℕ → List (List ℕ)
-fields [] = [] ∷ []
-fields (b ∷ bs) = cond (eqb b 32) ([] ∷ fields bs) (onto b (fields bs))
 
 -- The first words.
 abbrev pub AREA : List ℕ

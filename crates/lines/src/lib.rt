@@ -1,6 +1,4 @@
-// What an order line asks: its fields, the reader that takes them one at a time, and the shapes that a line may have.
-mod fields;
-mod reader;
+// What an order line asks: the shapes that it may have.
 mod requests;
 
 use terms::Refusal;
@@ -37,5 +35,5 @@ pub fn request_of(line: &[u8]) -> Request
     if MOST_BYTES < line.len() {
         return Request::Refused(Refusal::LongLine);
     }
-    reader::read_three(line)
+    requests::made_of(line, fields::read_three(line))
 }

@@ -1,15 +1,15 @@
 // What a line asks by its shape: its word, and the numbers after it.
 use crate::Request;
-use crate::fields::Field;
-use crate::fields::bytes_of;
+use fields::Taken;
+use fields::bytes_of;
 use terms::Refusal;
 use words::Numeral;
 use words::SignedNumeral;
 ghost use mathlib.Core.Bool.{cond, _||_};
 ghost use mathlib.Core.Path.{_≡_};
 ghost use Rattle.lines.specs.declared.Request.the-variants.{SetArea, SetOrigin, AskNumber, AskSquare};
-ghost use Rattle.lines.specs.Lines.{number, signed-number, is-empty, of-one, of-two, two-fields, three-fields};
-ghost use Rattle.lines.specs.Reading.{made-of-three};
+ghost use Rattle.fields.specs.Reading.{pieces};
+ghost use Rattle.lines.specs.Lines.{number, signed-number, is-empty, of-one, of-two, two-fields, three-fields, shaped};
 
 // What a line asks with one number after its word.
 fn with_one(a: &[u8]) -> Request
@@ -97,15 +97,17 @@ fn three_fields(word: &[u8], a: &[u8], b: &[u8]) -> Request
     Request::Refused(Refusal::WrongShape)
 }
 
-// What a line asks whose first three fields, as far as it has them, are a, b and c: the last of them has to end where the line ends.
-pub(crate) fn made_of_three(line: &[u8], a: Field, b: Field, c: Field) -> Request
-    ensures { λ r. ⌜ r ≡ made-of-three (now (line .entry)) a b c ⌝ }
+// What a line asks by the fields that are taken of it.
+pub(crate) fn made_of(line: &[u8], taken: Taken) -> Request
+    ensures { λ r. ⌜ r ≡ shaped (pieces (now (line .entry)) taken) ⌝ }
 {
-    if b.end == line.len() {
-        return two_fields(bytes_of(line, a), bytes_of(line, b));
+    match taken {
+        Taken::Two { word, a } => two_fields(bytes_of(line, word), bytes_of(line, a)),
+        Taken::Three { word, a, b } => three_fields(
+            bytes_of(line, word),
+            bytes_of(line, a),
+            bytes_of(line, b),
+        ),
+        Taken::FewerOrMore => Request::Refused(Refusal::WrongShape),
     }
-    if c.end == line.len() {
-        return three_fields(bytes_of(line, a), bytes_of(line, b), bytes_of(line, c));
-    }
-    Request::Refused(Refusal::WrongShape)
 }

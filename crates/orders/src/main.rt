@@ -1,5 +1,5 @@
-// orders: reads order lines from standard input, or from the form that its argument names, and writes a reply to each. It hands bytes to the desk and
-// writes the desk's text, and decides nothing. What fails is told in one line on standard error.
+// The program: it reads order lines from standard input, or from the form that its argument names, and writes a reply to each. It hands bytes to the desk
+// and writes the desk's text, and decides nothing. What fails is told in one line on standard error.
 use desk::Desk;
 use libc::STDERR_FILENO;
 use libc::STDIN_FILENO;
@@ -76,7 +76,7 @@ fn turn(fd: i32, desk: Desk, kept: &mut [u8], chunk: &mut [u8], out: &mut [u8]) 
 }
 
 // The turns that are left after one of them: none if there is no more to read. Nothing says that an input ends, so they are counted down from a
-// number that no run uses up.
+// number that is never used up.
 fn turns_left(more: bool, turns: u64) -> u64
     requires { ⌜ 1 ≤ turns ⌝ }
     ensures { λ r. ⌜ r < turns ⌝ }

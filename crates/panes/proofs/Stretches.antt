@@ -1,5 +1,5 @@
 -- Numbers taken up into runs: two stretches, one right behind the other, are one stretch; a walk over squares of which those from p on and below q pass
--- its test takes up one stretch. The word never loses a run, and has never more runs than there were numbers.
+-- its test takes up one stretch. The score never loses a run, and has never more runs than there were numbers.
 use mathlib.Core.Bool.{Bool, true, false, cond, and-eq-true-iff}
 use mathlib.Core.List.{List, [], _∷_, _++_, map}
 use mathlib.Core.Path.{_≡_, refl, sym, ap, ap₂, subst, subst⁻¹, _∙_}
@@ -11,80 +11,82 @@ use lib.Dec.{leb, ltb, eqb}
 use lib.ListN.{length, getD, set}
 use lib.Seq.{set-set}
 use Rattle.terms.specs.Terms.{past-32-bits}
-use Rattle.division.specs.Division.{Square, square}
-use Rattle.panes.specs.Panes.{in-span, Tally, tally, no-runs, runs-in, behind, joined-word, joined-pairs, joined, over}
+use Rattle.division.specs.Division.{Square, square, whole, curve}
+use Rattle.panes.specs.declared.Pane.{Pane}
+use Rattle.panes.specs.Panes.{in-span, Tally, tally, no-runs, runs-in, behind, joined-score, joined-pairs, joined, over, in-pane, seen, runs-of}
 
--- the word and the pairs with p to q taken up, by whether they follow the last run
-pub word-by : (word p q : ℕ) (t : Bool) → eqb (behind word) p ≡ t → joined-word word p q ≡ cond t (word + (q - p)) ((runs-in word + 1) * past-32-bits + q)
-unfolding joined-word
-word-by word p q t e = rw e refl
+-- the score and the pairs with p to q taken up, by whether they follow the last run
+pub score-by : (score p q : ℕ) (t : Bool) → eqb (behind score) p ≡ t
+    → joined-score score p q ≡ cond t (score + (q - p)) ((runs-in score + 1) * past-32-bits + q)
+unfolding joined-score
+score-by score p q t e = rw e refl
 
-pairs-by : (word : ℕ) (pairs : List ℕ) (p q : ℕ) (t : Bool) → eqb (behind word) p ≡ t
-    → joined-pairs word pairs p q
-    ≡ cond t (set pairs (2 * runs-in word - 1) (q - 1)) (set (set pairs (2 * runs-in word) p) (2 * runs-in word + 1) (q - 1))
+pairs-by : (score : ℕ) (pairs : List ℕ) (p q : ℕ) (t : Bool) → eqb (behind score) p ≡ t
+    → joined-pairs score pairs p q
+    ≡ cond t (set pairs (2 * runs-in score - 1) (q - 1)) (set (set pairs (2 * runs-in score) p) (2 * runs-in score + 1) (q - 1))
 unfolding joined-pairs
-pairs-by word pairs p q t e = rw e refl
+pairs-by score pairs p q t e = rw e refl
 
-pub joined-by : (t : Tally) (p q : ℕ) (same : Bool) → eqb (behind (t .word)) p ≡ same
+pub joined-by : (t : Tally) (p q : ℕ) (same : Bool) → eqb (behind (t .score)) p ≡ same
     → joined t p q
-    ≡ tally (cond same (t .word + (q - p)) ((runs-in (t .word) + 1) * past-32-bits + q))
-    (cond same (set (t .pairs) (2 * runs-in (t .word) - 1) (q - 1))
-    (set (set (t .pairs) (2 * runs-in (t .word)) p) (2 * runs-in (t .word) + 1) (q - 1)))
-joined-by t p q same e = ap₂ tally (word-by (t .word) p q same e) (pairs-by (t .word) (t .pairs) p q same e)
+    ≡ tally (cond same (t .score + (q - p)) ((runs-in (t .score) + 1) * past-32-bits + q))
+    (cond same (set (t .pairs) (2 * runs-in (t .score) - 1) (q - 1))
+    (set (set (t .pairs) (2 * runs-in (t .score)) p) (2 * runs-in (t .score) + 1) (q - 1)))
+joined-by t p q same e = ap₂ tally (score-by (t .score) p q same e) (pairs-by (t .score) (t .pairs) p q same e)
 
--- Without pairs there is only the word.
-none-by : (word p q : ℕ) (t : Bool) → eqb (behind word) p ≡ t → joined-pairs word [] p q ≡ []
-none-by word p q true e = pairs-by word [] p q true e
-none-by word p q false e = pairs-by word [] p q false e
+-- Without pairs there is only the score.
+none-by : (score p q : ℕ) (t : Bool) → eqb (behind score) p ≡ t → joined-pairs score [] p q ≡ []
+none-by score p q true e = pairs-by score [] p q true e
+none-by score p q false e = pairs-by score [] p q false e
 
-pub joined-none : (word p q : ℕ) → joined (tally word []) p q ≡ tally (joined-word word p q) []
-joined-none word p q = ap (tally (joined-word word p q)) (none-by word p q (eqb (behind word) p) refl)
+pub joined-none : (score p q : ℕ) → joined (tally score []) p q ≡ tally (joined-score score p q) []
+joined-none score p q = ap (tally (joined-score score p q)) (none-by score p q (eqb (behind score) p) refl)
 
--- What the word becomes: its runs, and the number behind the last.
-pub record Becomes (word p q word′ : ℕ) : Type 0 where
-  pub last : behind word′ ≡ q
-  pub least : runs-in word ≤ runs-in word′
-  pub most : runs-in word′ ≤ runs-in word + 1
-  pub begun : no-runs ≤ word → no-runs ≤ word′
+-- What the score becomes: its runs, and the number behind the last.
+pub record Becomes (score p q score′ : ℕ) : Type 0 where
+  pub last : behind score′ ≡ q
+  pub least : runs-in score ≤ runs-in score′
+  pub most : runs-in score′ ≤ runs-in score + 1
+  pub begun : no-runs ≤ score → no-runs ≤ score′
 
-becomes-by : (word p q : ℕ) (t : Bool) → eqb (behind word) p ≡ t → p < q → q < past-32-bits
-    → Becomes word p q (cond t (word + (q - p)) ((runs-in word + 1) * past-32-bits + q))
-becomes-by word p q true e l m =
-    let is = eqb-true (behind word) p e in
+becomes-by : (score p q : ℕ) (t : Bool) → eqb (behind score) p ≡ t → p < q → q < past-32-bits
+    → Becomes score p q (cond t (score + (q - p)) ((runs-in score + 1) * past-32-bits + q))
+becomes-by score p q true e l m =
+    let is = eqb-true (behind score) p e in
     record { last = omega arith; least = omega arith; most = omega arith; begun = λ b. omega arith }
-becomes-by word p q false e l m = record { last = omega arith; least = omega arith; most = omega arith; begun = λ b. omega arith }
+becomes-by score p q false e l m = record { last = omega arith; least = omega arith; most = omega arith; begun = λ b. omega arith }
 
-pub becomes : (word p q : ℕ) → p < q → q < past-32-bits → Becomes word p q (joined-word word p q)
-becomes word p q l m =
-    subst⁻¹ (Becomes word p q) (word-by word p q (eqb (behind word) p) refl) (becomes-by word p q (eqb (behind word) p) refl l m)
+pub becomes : (score p q : ℕ) → p < q → q < past-32-bits → Becomes score p q (joined-score score p q)
+becomes score p q l m =
+    subst⁻¹ (Becomes score p q) (score-by score p q (eqb (behind score) p) refl) (becomes-by score p q (eqb (behind score) p) refl l m)
 
 -- a stretch, and the one right behind it
-on-by : (t : Tally) (p q r : ℕ) (same : Bool) → eqb (behind (t .word)) p ≡ same → p < q → q < r → r < past-32-bits
+on-by : (t : Tally) (p q r : ℕ) (same : Bool) → eqb (behind (t .score)) p ≡ same → p < q → q < r → r < past-32-bits
     → joined (joined t p q) q r ≡ joined t p r
 on-by t p q r true e l m n =
-    let is = eqb-true (behind (t .word)) p e in
-    let k = 2 * runs-in (t .word) - 1 in
-    let next : behind (t .word + (q - p)) ≡ q = omega arith in
-    let sum : t .word + (q - p) + (r - q) ≡ t .word + (r - p) = omega arith in
-    let place : 2 * runs-in (t .word + (q - p)) - 1 ≡ k = omega arith in
+    let is = eqb-true (behind (t .score)) p e in
+    let k = 2 * runs-in (t .score) - 1 in
+    let next : behind (t .score + (q - p)) ≡ q = omega arith in
+    let sum : t .score + (q - p) + (r - q) ≡ t .score + (r - p) = omega arith in
+    let place : 2 * runs-in (t .score + (q - p)) - 1 ≡ k = omega arith in
     ap (λ s. joined s q r) (joined-by t p q true e)
-    ∙ joined-by (tally (t .word + (q - p)) (set (t .pairs) k (q - 1))) q r true (eq-eqb _ q next)
+    ∙ joined-by (tally (t .score + (q - p)) (set (t .pairs) k (q - 1))) q r true (eq-eqb _ q next)
     ∙ ap₂ tally sum (ap (λ i. set (set (t .pairs) k (q - 1)) i (r - 1)) place ∙ set-set (t .pairs) k (q - 1) (r - 1))
     ∙ sym (joined-by t p r true e)
 on-by t p q r false e l m n =
-    let k = 2 * runs-in (t .word) in
-    let word = (runs-in (t .word) + 1) * past-32-bits + q in
+    let k = 2 * runs-in (t .score) in
+    let score = (runs-in (t .score) + 1) * past-32-bits + q in
     let pairs = set (t .pairs) k p in
-    let next : behind word ≡ q = omega arith in
-    let sum : word + (r - q) ≡ (runs-in (t .word) + 1) * past-32-bits + r = omega arith in
-    let place : 2 * runs-in word - 1 ≡ k + 1 = omega arith in
+    let next : behind score ≡ q = omega arith in
+    let sum : score + (r - q) ≡ (runs-in (t .score) + 1) * past-32-bits + r = omega arith in
+    let place : 2 * runs-in score - 1 ≡ k + 1 = omega arith in
     ap (λ s. joined s q r) (joined-by t p q false e)
-    ∙ joined-by (tally word (set pairs (k + 1) (q - 1))) q r true (eq-eqb _ q next)
+    ∙ joined-by (tally score (set pairs (k + 1) (q - 1))) q r true (eq-eqb _ q next)
     ∙ ap₂ tally sum (ap (λ i. set (set pairs (k + 1) (q - 1)) i (r - 1)) place ∙ set-set pairs (k + 1) (q - 1) (r - 1))
     ∙ sym (joined-by t p r false e)
 
 pub joined-on : (t : Tally) (p q r : ℕ) → p < q → q < r → r < past-32-bits → joined (joined t p q) q r ≡ joined t p r
-joined-on t p q r = on-by t p q r (eqb (behind (t .word)) p) refl
+joined-on t p q r = on-by t p q r (eqb (behind (t .score)) p) refl
 
 -- a walk over two lists, one behind the other
 pub over-append : (test : Square → Bool) (t : Tally) (n : ℕ) (xs ys : List Square) → over test t n (xs ++ ys) ≡ over test (over test t n xs) (n + length xs) ys
@@ -164,20 +166,20 @@ over-stretch test t n (x ∷ xs) zero (suc (suc q)) l m r s =
     ∙ joined-on t n (n + 1) (n + suc (suc q)) (omega arith) (omega arith) (omega arith)
     ∙ ap (λ k. joined t k (n + suc (suc q))) (sym (add-zero n))
 
--- What a walk over n numbers makes of a word.
-pub record Grows (word n size word′ : ℕ) : Type 0 where
-  pub least : runs-in word ≤ runs-in word′
-  pub few : runs-in word ≤ n → runs-in word′ ≤ n + size
-  pub begun : no-runs ≤ word → no-runs ≤ word′
+-- What a walk over n numbers makes of a score.
+pub record Grows (score n size score′ : ℕ) : Type 0 where
+  pub least : runs-in score ≤ runs-in score′
+  pub few : runs-in score ≤ n → runs-in score′ ≤ n + size
+  pub begun : no-runs ≤ score → no-runs ≤ score′
 
-step-grows : (t : Tally) (n : ℕ) (b : Bool) → n + 1 < past-32-bits → Grows (t .word) n 1 (cond b (joined t n (n + 1)) t .word)
+step-grows : (t : Tally) (n : ℕ) (b : Bool) → n + 1 < past-32-bits → Grows (t .score) n 1 (cond b (joined t n (n + 1)) t .score)
 step-grows t n true l =
-    let is = becomes (t .word) n (n + 1) (omega arith) l in
+    let is = becomes (t .score) n (n + 1) (omega arith) l in
     record { least = is .least; few = λ f. let m = is .most in omega arith; begun = is .begun }
 step-grows t n false l = record { least = le-refl _; few = λ f. omega arith; begun = λ b. b }
 
 pub over-grows : (test : Square → Bool) (t : Tally) (n : ℕ) (ss : List Square) → n + length ss < past-32-bits
-    → Grows (t .word) n (length ss) (over test t n ss .word)
+    → Grows (t .score) n (length ss) (over test t n ss .score)
 unfolding over
 over-grows test t n [] l = record { least = le-refl _; few = λ f. omega arith; begun = λ b. b }
 over-grows test t n (x ∷ xs) l =
@@ -191,13 +193,17 @@ over-grows test t n (x ∷ xs) l =
       begun = λ f. rest .begun (one .begun f);
     }
 
--- The word does not depend on the pairs.
-step-alike : (t u : Tally) (n : ℕ) (b : Bool) → t .word ≡ u .word → cond b (joined t n (n + 1)) t .word ≡ cond b (joined u n (n + 1)) u .word
-step-alike t u n true e = ap (λ w. joined-word w n (n + 1)) e
+-- The score does not depend on the pairs.
+step-alike : (t u : Tally) (n : ℕ) (b : Bool) → t .score ≡ u .score → cond b (joined t n (n + 1)) t .score ≡ cond b (joined u n (n + 1)) u .score
+step-alike t u n true e = ap (λ w. joined-score w n (n + 1)) e
 step-alike t u n false e = e
 
-pub words-alike : (test : Square → Bool) (t u : Tally) (n : ℕ) (ss : List Square) → t .word ≡ u .word → over test t n ss .word ≡ over test u n ss .word
+pub scores-alike : (test : Square → Bool) (t u : Tally) (n : ℕ) (ss : List Square) → t .score ≡ u .score → over test t n ss .score ≡ over test u n ss .score
 unfolding over
-words-alike test t u n [] e = e
-words-alike test t u n (x ∷ xs) e =
-    words-alike test (cond (test x) (joined t n (n + 1)) t) (cond (test x) (joined u n (n + 1)) u) (suc n) xs (step-alike t u n (test x) e)
+scores-alike test t u n [] e = e
+scores-alike test t u n (x ∷ xs) e =
+    scores-alike test (cond (test x) (joined t n (n + 1)) t) (cond (test x) (joined u n (n + 1)) u) (suc n) xs (step-alike t u n (test x) e)
+
+-- so as many runs are seen of a pane, whatever list their pairs are written to
+pub runs-alike : (p : Pane) (pairs : List ℕ) → runs-in (seen p (tally no-runs pairs) 0 .score) ≡ runs-of p
+runs-alike p pairs = ap (λ w. runs-in w) (scores-alike (in-pane p) (tally no-runs pairs) (tally no-runs []) 0 (curve (whole (p .a) (p .b))) refl)

@@ -35,34 +35,34 @@ pane-in C p =
 abbrev pub is-whole : Pane → Bool
 is-whole p = (eqb (p .u0) 0 && eqb (p .v0) 0) && (eqb (p .u1) (p .a) && eqb (p .v1) (p .b))
 
--- The runs so far: their pairs in a list, and in one word how many there are and which number comes behind the last. The word of no runs has for that
--- a number that no square has.
+-- The runs so far: their pairs in a list, and a score, one number that has how many there are and which number comes behind the last. The score of no runs
+-- has for that a number that no square has.
 pub record Tally : Type 0 where
-  pub word : ℕ
+  pub score : ℕ
   pub pairs : List ℕ
 
 abbrev pub tally : ℕ → List ℕ → Tally
-tally word pairs = record { word = word; pairs = pairs }
+tally score pairs = record { score = score; pairs = pairs }
 
 abbrev pub no-runs : ℕ
 no-runs = 4294967295
 
 abbrev pub runs-in : ℕ → ℕ
-runs-in word = word / past-32-bits
+runs-in score = score / past-32-bits
 
 abbrev pub behind : ℕ → ℕ
-behind word = word % past-32-bits
+behind score = score % past-32-bits
 
 -- The numbers from p on and below q taken up: they lengthen the last run where they follow it, and are a new run where they do not.
-unfoldable pub joined-word : (word p q : ℕ) → ℕ
-joined-word word p q = cond (eqb (behind word) p) (word + (q - p)) ((runs-in word + 1) * past-32-bits + q)
+unfoldable pub joined-score : (score p q : ℕ) → ℕ
+joined-score score p q = cond (eqb (behind score) p) (score + (q - p)) ((runs-in score + 1) * past-32-bits + q)
 
-unfoldable pub joined-pairs : (word : ℕ) → List ℕ → (p q : ℕ) → List ℕ
-joined-pairs word pairs p q =
-    cond (eqb (behind word) p) (set pairs (2 * runs-in word - 1) (q - 1)) (set (set pairs (2 * runs-in word) p) (2 * runs-in word + 1) (q - 1))
+unfoldable pub joined-pairs : (score : ℕ) → List ℕ → (p q : ℕ) → List ℕ
+joined-pairs score pairs p q =
+    cond (eqb (behind score) p) (set pairs (2 * runs-in score - 1) (q - 1)) (set (set pairs (2 * runs-in score) p) (2 * runs-in score + 1) (q - 1))
 
 abbrev pub joined : Tally → (p q : ℕ) → Tally
-joined t p q = tally (joined-word (t .word) p q) (joined-pairs (t .word) (t .pairs) p q)
+joined t p q = tally (joined-score (t .score) p q) (joined-pairs (t .score) (t .pairs) p q)
 
 -- A stretch of numbers, which may be none, taken up.
 abbrev pub stretched : Tally → Stretch → Tally
@@ -83,8 +83,15 @@ over test t n (s ∷ ss) = over test (cond (test s) (joined t n (n + 1)) t) (suc
 abbrev pub seen : Pane → Tally → (n : ℕ) → Tally
 seen p t n = over (in-pane p) t n (curve (whole (p .a) (p .b)))
 
--- What a walk asks of its pane, of the numbers from n on, and of the word so far: lengths and numbers within the limits, and no more runs than numbers.
-pub record Walks (p : Pane) (n word : ℕ) : Type 0 where
+-- The runs of a pane of a whole area, whose squares are numbered from 0 on: how many there are, and a list with their pairs written to its first places.
+abbrev pub runs-of : Pane → ℕ
+runs-of p = runs-in (seen p (tally no-runs []) 0 .score)
+
+abbrev pub pairs-into : Pane → List ℕ → List ℕ
+pairs-into p pairs = seen p (tally no-runs pairs) 0 .pairs
+
+-- What a walk asks of its pane, of the numbers from n on, and of the score so far: lengths and numbers within the limits, and no more runs than numbers.
+pub record Walks (p : Pane) (n score : ℕ) : Type 0 where
   pub a-least : 1 ≤ p .a
   pub b-least : 1 ≤ p .b
   pub a-limit : p .a ≤ longest-side
@@ -92,8 +99,8 @@ pub record Walks (p : Pane) (n word : ℕ) : Type 0 where
   pub u-limit : p .u1 ≤ p .a
   pub v-limit : p .v1 ≤ p .b
   pub room : n + p .a * p .b < no-runs
-  pub begun : no-runs ≤ word
-  pub few : runs-in word ≤ n
+  pub begun : no-runs ≤ score
+  pub few : runs-in score ≤ n
 
 -- A pane that has a square.
 pub record Opens (p : Pane) : Type 0 where
@@ -111,16 +118,16 @@ pub record Leaf (p : Pane) (n : ℕ) : Type 0 where
   pub v-limit : p .v1 ≤ p .b
   pub room : n + p .a * p .b < no-runs
 
--- Room in a list for the pairs of a word's runs.
-abbrev pub Holds : (word : ℕ) → List ℕ → Type 0
-Holds word pairs = 2 * runs-in word ≤ length pairs
+-- Room in a list for the pairs of a score's runs.
+abbrev pub Holds : (score : ℕ) → List ℕ → Type 0
+Holds score pairs = 2 * runs-in score ≤ length pairs
 
 -- What is asked where numbers are taken up.
-pub record Joins (word p q : ℕ) : Type 0 where
+pub record Joins (score p q : ℕ) : Type 0 where
   pub some : p < q
   pub limit : q < no-runs
-  pub begun : no-runs ≤ word
-  pub few : runs-in word ≤ p
+  pub begun : no-runs ≤ score
+  pub few : runs-in score ≤ p
 
-abbrev pub May-join : (word : ℕ) → Stretch → Type 0
-May-join word s = s .from < s .to → Joins word (s .from) (s .to)
+abbrev pub May-join : (score : ℕ) → Stretch → Type 0
+May-join score s = s .from < s .to → Joins score (s .from) (s .to)

@@ -41,8 +41,8 @@ pub writes-none : (t : List ℕ) (i : ℕ) → Writes t i [] t i
 writes-none t i = record { written = refl; behind = sym (add-zero i) }
 
 -- a number that was written ends at most ten bytes on
-pub number-near : {t t′ : List ℕ} {at n end : ℕ} → n < past-32-bits → Writes t at (decimal n) t′ end → end ≤ at + 10
-number-near {n = n} fits w = omega (arith, w .behind, ten-digits n fits)
+pub number-short : {t t′ : List ℕ} {at n end : ℕ} → n < past-32-bits → Writes t at (decimal n) t′ end → end ≤ at + 10
+number-short {n = n} fits w = omega (arith, w .behind, ten-digits n fits)
 
 -- after the digits before the last there is room for the last
 pub last-has-room : {t t′ : List ℕ} {at n end : ℕ} → 10 ≤ n → at + length (decimal n) ≤ length t → Writes t at (decimal (n / 10)) t′ end → end < length t
@@ -75,7 +75,7 @@ writes-all {t} {t′} {at} s i e w =
 -- the numbers that are written so far, from a place on, with at most 11 bytes for each, and the room for them all
 pub record Numbered (t : List ℕ) (from : ℕ) (ns t′ : List ℕ) (end i : ℕ) : Type 0 where
   pub so-far : Writes t from (all-spaced (in-signs (take i ns))) t′ end
-  pub near : end ≤ from + longest-spaced * i
+  pub short : end ≤ from + longest-spaced * i
   pub among : i ≤ length ns
   pub room : from + longest-spaced * length ns ≤ length t
 
@@ -87,7 +87,7 @@ all-spaced-last (m ∷ ns) n =
 
 pub numbered-none : {t : List ℕ} {from : ℕ} {ns : List ℕ} → from + longest-spaced * length ns ≤ length t → Numbered t from ns t from 0
 unfolding in-signs
-numbered-none {t} {from} room = record { so-far = writes-none t from; near = omega arith; among = omega arith; room = room }
+numbered-none {t} {from} room = record { so-far = writes-none t from; short = omega arith; among = omega arith; room = room }
 
 pub numbered-next : {t ns t′ t″ : List ℕ} {from end end′ i : ℕ} → Numbered t from ns t′ end i → i < length ns
     → Writes t′ end (spaced (pos (getD ns i 0))) t″ end′ → end′ ≤ end + longest-spaced → Numbered t from ns t″ end′ (i + 1)
@@ -95,7 +95,7 @@ numbered-next {t} {ns} {t′} {t″} {from} {end} {end′} {i} before more next 
     let on : i + 1 ≡ suc i = omega arith in
     let all : all-spaced (in-signs (take (i + 1) ns)) ≡ all-spaced (in-signs (take i ns)) ++ spaced (pos (getD ns i 0)) =
     ap (λ n. all-spaced (in-signs (take n ns))) on ∙ ap (λ ns. all-spaced (in-signs ns)) (take-suc ns i 0 more) ∙ all-spaced-last (take i ns) (getD ns i 0) in
-    record { so-far = rw all (writes-both (before .so-far) next); near = omega arith; among = omega arith; room = before .room }
+    record { so-far = rw all (writes-both (before .so-far) next); short = omega arith; among = omega arith; room = before .room }
 
 pub numbered-all : {t ns t′ : List ℕ} {from end i : ℕ} → Numbered t from ns t′ end i → length ns ≤ i
     → Writes t from (all-spaced (in-signs ns)) t′ end × (end ≤ from + longest-spaced * length ns)

@@ -43,7 +43,7 @@ fn put_number(out: &mut [u8], at: usize, n: u32) -> usize
 fn put_spaced(out: &mut [u8], at: usize, n: u32) -> usize
     requires { ⌜ at + longest-spaced ≤ length (now out) ⌝ }
     ensures written { λ r. ⌜ Writes (now (out .entry)) at (spaced (pos n)) (now (out .exit)) r ⌝ }
-    ensures near { λ r. ⌜ r ≤ at + longest-spaced ⌝ }
+    ensures short { λ r. ⌜ r ≤ at + longest-spaced ⌝ }
 {
     out[at] = b' ';
     put_number(out, at + 1, n)
@@ -53,7 +53,7 @@ fn put_spaced(out: &mut [u8], at: usize, n: u32) -> usize
 fn put_signed(out: &mut [u8], at: usize, z: i32) -> usize
     requires { ⌜ at + longest-spaced + 1 ≤ length (now out) ⌝ }
     ensures written { λ r. ⌜ Writes (now (out .entry)) at (spaced z) (now (out .exit)) r ⌝ }
-    ensures near { λ r. ⌜ r ≤ at + longest-spaced + 1 ⌝ }
+    ensures short { λ r. ⌜ r ≤ at + longest-spaced + 1 ⌝ }
 {
     if z < 0 {
         let digits = put_bytes(out, at, b" -");
@@ -66,7 +66,7 @@ fn put_signed(out: &mut [u8], at: usize, z: i32) -> usize
 fn put_pair(out: &mut [u8], at: usize, x: i32, y: i32) -> usize
     requires { ⌜ at + longest-pair ≤ length (now out) ⌝ }
     ensures written { λ r. ⌜ Writes (now (out .entry)) at (all-spaced (x ∷ y ∷ [])) (now (out .exit)) r ⌝ }
-    ensures near { λ r. ⌜ r ≤ at + longest-pair ⌝ }
+    ensures short { λ r. ⌜ r ≤ at + longest-pair ⌝ }
 {
     let end = put_signed(out, at, x);
     put_signed(out, end, y)
@@ -76,7 +76,7 @@ fn put_pair(out: &mut [u8], at: usize, x: i32, y: i32) -> usize
 fn put_said(out: &mut [u8], at: usize, word: &[u8], numbers: &[u32]) -> usize
     requires { ⌜ at + length (now word) + longest-spaced * length (now numbers) ≤ length (now out) ⌝ }
     ensures written { λ r. ⌜ Writes (now (out .entry)) at (now (word .entry) ++ all-spaced (in-signs (now (numbers .entry)))) (now (out .exit)) r ⌝ }
-    ensures near { λ r. ⌜ r ≤ at + length (now (word .entry)) + longest-spaced * length (now (numbers .entry)) ⌝ }
+    ensures short { λ r. ⌜ r ≤ at + length (now (word .entry)) + longest-spaced * length (now (numbers .entry)) ⌝ }
 {
     let mut end = put_bytes(out, at, word);
     for i in 0..numbers.len() {
@@ -89,7 +89,7 @@ fn put_said(out: &mut [u8], at: usize, word: &[u8], numbers: &[u32]) -> usize
 fn put_body(out: &mut [u8], at: usize, reply: Reply) -> usize
     requires { ⌜ at + longest-body ≤ length (now out) ⌝ }
     ensures written { λ r. ⌜ Writes (now (out .entry)) at (body (said reply)) (now (out .exit)) r ⌝ }
-    ensures near { λ r. ⌜ r ≤ at + longest-body ⌝ }
+    ensures short { λ r. ⌜ r ≤ at + longest-body ⌝ }
 {
     match reply {
         Reply::AreaSet {
@@ -108,8 +108,8 @@ fn put_body(out: &mut [u8], at: usize, reply: Reply) -> usize
             put_pair(out, end, ox, oy)
         }
         Reply::Cell { x, y, blocks } => {
-            let word = put_bytes(out, at, b" CELL");
-            let end = put_pair(out, word, x, y);
+            let behind = put_bytes(out, at, b" CELL");
+            let end = put_pair(out, behind, x, y);
             put_spaced(out, end, blocks)
         }
         Reply::Number { number, blocks } => {
@@ -127,7 +127,7 @@ fn put_body(out: &mut [u8], at: usize, reply: Reply) -> usize
 fn put_line(out: &mut [u8], at: usize, line: u32, reply: Reply) -> usize
     requires { ⌜ at + longest ≤ length (now out) ⌝ }
     ensures written { λ r. ⌜ Writes (now (out .entry)) at (text line (said reply)) (now (out .exit)) r ⌝ }
-    ensures near { λ r. ⌜ r ≤ at + longest ⌝ }
+    ensures short { λ r. ⌜ r ≤ at + longest ⌝ }
 {
     let a = put_number(out, at, line);
     let b = put_body(out, a, reply);
@@ -139,7 +139,7 @@ fn put_line(out: &mut [u8], at: usize, line: u32, reply: Reply) -> usize
 fn put_stop(out: &mut [u8], at: usize, line: u32) -> usize
     requires { ⌜ at + longest ≤ length (now out) ⌝ }
     ensures written { λ r. ⌜ Writes (now (out .entry)) at (stop line) (now (out .exit)) r ⌝ }
-    ensures near { λ r. ⌜ r ≤ at + longest ⌝ }
+    ensures short { λ r. ⌜ r ≤ at + longest ⌝ }
 {
     let a = put_number(out, at, line);
     put_bytes(out, a, b" STOP\n")
@@ -158,7 +158,7 @@ pub fn has_room(out: &[u8], at: usize) -> bool
 // Writes the reply to a line at a place of a buffer, and says which place is after it. Nothing is written if the longest text would not fit.
 pub fn write_reply(out: &mut [u8], at: usize, line: u32, reply: Reply) -> usize
     ensures written { λ r. ⌜ Writes (now (out .entry)) at (if-room (now (out .entry)) at (text line (said reply))) (now (out .exit)) r ⌝ }
-    ensures near { λ r. ⌜ r ≤ at + longest ⌝ }
+    ensures short { λ r. ⌜ r ≤ at + longest ⌝ }
 {
     if !has_room(out, at) {
         return at;
@@ -169,7 +169,7 @@ pub fn write_reply(out: &mut [u8], at: usize, line: u32, reply: Reply) -> usize
 // The same for the line after which none is read.
 pub fn write_stop(out: &mut [u8], at: usize, line: u32) -> usize
     ensures written { λ r. ⌜ Writes (now (out .entry)) at (if-room (now (out .entry)) at (stop line)) (now (out .exit)) r ⌝ }
-    ensures near { λ r. ⌜ r ≤ at + longest ⌝ }
+    ensures short { λ r. ⌜ r ≤ at + longest ⌝ }
 {
     if !has_room(out, at) {
         return at;

@@ -14,11 +14,13 @@ use Rattle.division.specs.Division.Inside.{Sized, x-y, Inside}
 use Rattle.division.specs.Forms.{seen-in}
 use Rattle.division.proofs.Cases.{long-lengths, u-lengths, run-length, side-length}
 use Rattle.division.proofs.Blocks.{whole-inside}
-use Rattle.division.proofs.Once.{number-below}
-use Rattle.division.proofs.Local.{Within, whole-holds, seen-from, Lies, in-first, in-second, in-a, in-b, in-c, squares-of, lies-smaller, lies-inside, lies-fits}
-use Rattle.division.proofs.Local.{area-run, area-side, area-cut}
-use Rattle.division.proofs.Walks.{a-limit, b-limit, Sums-fit, sums-fit}
-use Rattle.searches.specs.Searches.{number-packed, number-unpacked, numbered, spot-number, spot-blocks, Lying, Leads, Searches, search-packed}
+use Rattle.division.proofs.EachSquareOnce.{number-below}
+use Rattle.division.proofs.Coordinates.{Within, whole-holds, seen-from}
+use Rattle.division.proofs.PartHolding.{Lies, in-first, in-second, in-a, in-b, in-c, squares-of, lies-smaller, lies-inside, lies-fits}
+use Rattle.division.proofs.SameLengths.{area-run, area-side, area-cut}
+use Rattle.division.proofs.WithinLimits.{a-limit, b-limit, Sums-fit, sums-fit}
+use Rattle.searches.specs.Searches.{past-counts, number-packed, number-unpacked, numbered, spot-number, spot-blocks}
+use Rattle.searches.specs.Searches.{Lying, Leads, Searches, search-packed}
 
 sized-of : (s : Spot) {before : ℕ} → Lying s before → Sized (whole (s .a) (s .b))
 unfolding whole
@@ -136,7 +138,7 @@ module _ {s : Spot} {before above : ℕ} (r : Searches s before above) where
         area-run (s .a) (s .b) (sized-of s (r .lying) .run) (sized-of s (r .lying) .side) (square (s .u) (s .v)) lies-in c
         (run-length (whole (s .a) (s .b)) (sized-of s (r .lying)) c)
 
-    pub run-count : above + 1 < 256
+    pub run-count : above + 1 < past-counts
     run-count = let n = run-answers .1 in let l = r .count in omega arith
 
     pub run-packed : number-packed (before + s .u) (above + 1) ≡ search-packed s before above
@@ -149,7 +151,7 @@ module _ {s : Spot} {before above : ℕ} (r : Searches s before above) where
         area-side (s .a) (s .b) (sized-of s (r .lying) .run) (sized-of s (r .lying) .side) (square (s .u) (s .v)) lies-in c
         (side-length (whole (s .a) (s .b)) (sized-of s (r .lying)) c)
 
-    pub side-count : above + 1 < 256
+    pub side-count : above + 1 < past-counts
     side-count = let n = side-answers .1 in let l = r .count in omega arith
 
     pub side-packed : number-packed (before + s .v) (above + 1) ≡ search-packed s before above
@@ -163,10 +165,10 @@ module _ {s : Spot} {before above : ℕ} (r : Searches s before above) where
     next-packed = let n = l .holding in let m = l .number in omega arith
 
 -- what was packed is what is taken out again
-pub taken-out : (number blocks : ℕ) → number < past-32-bits → blocks < 256 → number-unpacked (number-packed number blocks) ≡ numbered number blocks
+pub taken-out : (number blocks : ℕ) → number < past-32-bits → blocks < past-counts → number-unpacked (number-packed number blocks) ≡ numbered number blocks
 taken-out number blocks l few =
-    let number-is : number-packed number blocks / 256 % past-32-bits ≡ number = omega arith in
-    let blocks-is : number-packed number blocks % 256 ≡ blocks = omega arith in
+    let number-is : number-packed number blocks / past-counts % past-32-bits ≡ number = omega arith in
+    let blocks-is : number-packed number blocks % past-counts ≡ blocks = omega arith in
     λ i. record { number = number-is i; blocks = blocks-is i }
 
 -- a search in the whole area: its number is one of 32 bits, and is what is taken out

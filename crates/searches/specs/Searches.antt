@@ -1,5 +1,5 @@
 -- What a search asks and returns, and each step of it: of a square, document 01's "A lookup goes down into the one part that holds it and skips
--- the others by their areas." It returns one number, into which are packed a number and a count of blocks below 256.
+-- the others by their areas." It returns one number, into which are packed a number and a count of blocks.
 use mathlib.Core.Path.{_≡_}
 use Prim.Native.Nat.{ℕ, suc, _+_, _*_, _/_, _%_, _≤_, _<_}
 use Rattle.terms.specs.Terms.{longest-side, past-32-bits}
@@ -7,11 +7,15 @@ use Rattle.division.specs.declared.Spot.{Spot}
 use Rattle.searches.specs.declared.Numbered.{Numbered}
 use Rattle.division.specs.Division.{square, whole, number-of, blocks-holding}
 
+-- The factor of packing: the least number past every count of blocks.
+abbrev pub past-counts : ℕ
+past-counts = 256
+
 abbrev pub number-packed : ℕ → ℕ → ℕ
-number-packed number blocks = number * 256 + blocks
+number-packed number blocks = number * past-counts + blocks
 
 abbrev pub number-unpacked : (packed : ℕ) → Numbered
-number-unpacked packed = record { number = packed / 256 % past-32-bits; blocks = packed % 256 }
+number-unpacked packed = record { number = packed / past-counts % past-32-bits; blocks = packed % past-counts }
 
 -- A number with a count of blocks, as the code has them when they are taken out.
 abbrev pub numbered : (number blocks : ℕ) → Numbered
@@ -46,7 +50,7 @@ pub record Leads (s : Spot) (before : ℕ) (t : Spot) (on : ℕ) : Type 0 where
 -- A search for a spot in a block that `above` blocks hold.
 pub record Searches (s : Spot) (before above : ℕ) : Type 0 where
   pub lying : Lying s before
-  pub count : above + spot-blocks s < 256
+  pub count : above + spot-blocks s < past-counts
 
 abbrev pub search-packed : Spot → (before above : ℕ) → ℕ
 search-packed s before above = number-packed (before + spot-number s) (above + spot-blocks s)

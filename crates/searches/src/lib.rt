@@ -12,19 +12,22 @@ pub struct Numbered {
     pub blocks: u32,
 }
 
+// The factor of packing: the least number past every count of blocks.
+const PAST_COUNTS: u64 = 256;
+
 // Both packed into one number, as in a descent, and taken out again.
 fn pack_number(number: u32, blocks: u32) -> u64
     ensures { λ r. ⌜ r ≡ number-packed number blocks ⌝ }
 {
-    number as u64 * 256 + blocks as u64
+    number as u64 * PAST_COUNTS + blocks as u64
 }
 
 fn unpack_number(packed: u64) -> Numbered
     ensures { λ r. ⌜ r ≡ number-unpacked packed ⌝ }
 {
     Numbered {
-        number: (packed / 256 % terms::PAST_32_BITS) as u32,
-        blocks: (packed % 256) as u32,
+        number: (packed / PAST_COUNTS % terms::PAST_32_BITS) as u32,
+        blocks: (packed % PAST_COUNTS) as u32,
     }
 }
 

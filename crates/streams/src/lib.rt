@@ -1,4 +1,6 @@
 // Reading and writing that lose nothing: a call that was interrupted, or that would have to wait, is tried again after a pause.
+mod waits;
+
 ghost use Prim.Native.Nat.{_≤_};
 ghost use lib.ListN.{length};
 ghost use Rattle.io.specs.Counts.{Counts};
@@ -18,7 +20,7 @@ pub struct Moved {
 }
 
 // One read, in as many tries as it takes. No bytes without a failure are the end of the input. Nothing says that a try succeeds some day, so they are
-// counted down from a number that no run uses up.
+// counted down from a number that is never used up.
 pub fn read_some(fd: i32, buf: &mut [u8]) -> Moved
     ensures { λ r. ⌜ Counts (r .count) (now (buf .exit)) ⌝ }
 {

@@ -1,4 +1,5 @@
-pub mod Whole
+pub mod Admitted
+pub mod Refused
 pub mod PlaceByPlace
-pub mod Judged
+pub mod FirstWrong
 pub mod Promises

@@ -12,9 +12,10 @@ use native.Mathlib.Omega.{arith}
 use lib.ListN.{length, getD, set, length-append, length-map, length-set, List·getD-append, drop-of-length-le}
 use lib.Seq.{getD-append-seam, getD-set-same, getD-set-other, ext-getD}
 use Rattle.division.specs.Division.{Square, square, whole, curve, square-of, number-of}
-use Rattle.division.proofs.Once.{length-curve, square-held, square-of-number, number-of-square, number-below}
+use Rattle.division.proofs.EachSquareOnce.{length-curve, square-held, square-of-number, number-of-square, number-below}
 use Rattle.division.proofs.Blocks.{whole-inside}
-use Rattle.division.proofs.Local.{Within, whole-holds, whole-within, getD-map-in}
+use Rattle.division.proofs.Coordinates.{Within, whole-holds, whole-within}
+use Rattle.division.proofs.Places.{getD-map-in}
 use Rattle.tables.specs.Tables.{places, by-number, by-square, due-by}
 use Rattle.leaves.specs.Walk.{place, over, enter-one, filled-with}
 use Rattle.leaves.proofs.Entries.{enter-length, place-below}

@@ -2,28 +2,30 @@
 -- exactly of the table that a fill leaves, the count meets demand 3, an answer is the only one, and the wrong programs that are turned away.
 use mathlib.Core.Bool.{Bool, true, false, cond}
 use mathlib.Core.List.{List, [], _∷_}
+use mathlib.Core.Logic.{_⊎_, inl, inr}
 use mathlib.Core.Path.{_≡_, refl, sym, ap, ap₂, subst⁻¹, _∙_}
 use Prim.Native.Nat.{ℕ, zero, suc, _+_, _-_, _*_, _/_, _%_, _≤_, _<_}
 use native.Mathlib.Nat.{zero-add}
 use native.Mathlib.Omega.{arith}
 use borrow.Author.Tests.{eqb-true, eqb-false, eq-eqb, ne-eqb}
 use lib.Dec.{eqb, lit≤, lit<}
-use lib.ListN.{length, getD, replicate}
+use lib.ListN.{length, getD}
 use Rattle.division.proofs.Small.{blocks-two}
 use Rattle.terms.specs.declared.Area.{Area}
-use Rattle.terms.specs.declared.Refusal.the-variants.{TableLength}
-use Rattle.terms.specs.Terms.{most-squares, lengths-accepted, accepted, area-refusal, refusal-number, Figures, answered, refused}
-use Rattle.terms.proofs.Laws.{limits, named, named-back, refusal-some, refusal-not-0, figure}
-use Rattle.terms.proofs.Laws.{area-refused-1, area-refused-13, lengths-refused, squares-refused}
-use Rattle.terms.proofs.Ones.{one-equation, by-figures}
+use Rattle.terms.specs.Terms.{accepted, Figures, answered}
+use Rattle.terms.specs.Guards.{guarded}
+use Rattle.terms.proofs.Limits.{limits}
+use Rattle.terms.proofs.Refusals.{named, named-back, refusal-not-0, figure}
+use Rattle.terms.proofs.Guards.{all-pass, answered-exactly}
+use Rattle.terms.proofs.OneAnswer.{one-equation, by-figures}
 use Rattle.division.specs.Division.{square, whole, square-of, number-of, blocks, +x, +y}
 use Rattle.division.proofs.Blocks.{whole-inside, few-blocks}
 use Rattle.tables.specs.declared.FillAnswer as FillAnswers
 use Rattle.tables.specs.declared.CheckAnswer as CheckAnswers
-use Rattle.tables.specs.Tables.{by-number, by-square, due-by, judged, on-table, unless-refused, fill, check, fill-figures, check-figures}
+use Rattle.tables.specs.Tables.{by-number, by-square, due-by, judged, table-guards, unless-refused, fill, check, fill-figures, check-figures}
 use Rattle.tables.specs.Tables.{fill-at, filled-at, check-at}
-use Rattle.tables.proofs.Whole.{area-refused, length-refused, taken, given}
-use Rattle.tables.proofs.Judged.{judged-right}
+use Rattle.tables.proofs.Admitted.{table-granted, taken, given}
+use Rattle.tables.proofs.FirstWrong.{judged-right}
 use Rattle.tables.proofs.PlaceByPlace.{place-holds, values-below, due-there, looked-for, looked-below, looked-at, due-length}
 
 -- A filled table holds what the lookups' definitions say.
@@ -61,6 +63,19 @@ judged-same p [] (v ∷ vs) e right = absurd (omega arith)
 judged-same p (d ∷ ds) [] e right = absurd (omega arith)
 judged-same p (d ∷ ds) (v ∷ vs) e right = same-by p d v ds vs (eqb v d) refl (judged-same (suc p) ds vs (omega arith)) right
 
+right-or-wrong : (p : ℕ) (ds vs : List ℕ)
+    → (judged p ds vs ≡ 0 ∷ 0 ∷ 0 ∷ []) ⊎ ((place : ℕ) × (value : ℕ) × (judged p ds vs ≡ 1 ∷ place ∷ value ∷ []))
+unfolding judged
+right-or-wrong p [] vs = inl refl
+right-or-wrong p (d ∷ ds) [] = inr (p, d, refl)
+right-or-wrong p (d ∷ ds) (v ∷ vs) = by (eqb v d) (right-or-wrong (suc p) ds vs)
+  where
+    by : (same : Bool) → (judged (suc p) ds vs ≡ 0 ∷ 0 ∷ 0 ∷ []) ⊎ ((place : ℕ) × (value : ℕ) × (judged (suc p) ds vs ≡ 1 ∷ place ∷ value ∷ []))
+        → (cond same (judged (suc p) ds vs) (1 ∷ p ∷ d ∷ []) ≡ 0 ∷ 0 ∷ 0 ∷ [])
+        ⊎ ((place : ℕ) × (value : ℕ) × (cond same (judged (suc p) ds vs) (1 ∷ p ∷ d ∷ []) ≡ 1 ∷ place ∷ value ∷ []))
+    by true later = later
+    by false later = inr (p, d, refl)
+
 module _ (w h : ℕ) (yes : accepted w h ≡ true) (kind : Bool) (t : List ℕ) (size : length t ≡ w * h) where
   abbrev due : List ℕ
   due = due-by kind w h
@@ -70,13 +85,22 @@ module _ (w h : ℕ) (yes : accepted w h ≡ true) (kind : Bool) (t : List ℕ) 
 
   judged-is : check w h due t ≡ answered (judged 0 due t)
   unfolding check
-  judged-is = taken w h t 3 (answered (judged 0 due t)) yes size
+  judged-is = taken w h t 3 (judged 0 due t) yes size
 
   pub right-then-filled : check w h due t ≡ answered (0 ∷ 0 ∷ 0 ∷ []) → t ≡ due
   right-then-filled e = judged-same 0 due t (size ∙ sym long) (ap (λ f. f .values) (sym judged-is ∙ e))
 
   pub filled-then-right : t ≡ due → check w h due t ≡ answered (0 ∷ 0 ∷ 0 ∷ [])
   filled-then-right e = judged-is ∙ ap answered (judged-right 0 due t (size ∙ sym long) (λ i l. ap (λ zs. getD zs i 0) e))
+
+  -- and a wrong table is told wrong
+  pub wrong-told : (t ≡ due → ⊥) → (place : ℕ) × (value : ℕ) × (check w h due t ≡ answered (1 ∷ place ∷ value ∷ []))
+  wrong-told other = by (right-or-wrong 0 due t)
+    where
+      by : (judged 0 due t ≡ 0 ∷ 0 ∷ 0 ∷ []) ⊎ ((place : ℕ) × (value : ℕ) × (judged 0 due t ≡ 1 ∷ place ∷ value ∷ []))
+          → (place : ℕ) × (value : ℕ) × (check w h due t ≡ answered (1 ∷ place ∷ value ∷ []))
+      by (inl right) = absurd (other (right-then-filled (judged-is ∙ ap answered right)))
+      by (inr (place, value, is)) = (place, value, judged-is ∙ ap answered is)
 
 -- "the first wrong place and the value due there": the table has that place, what it holds is not what is due there, and every place before it is right.
 pub record First (due t : List ℕ) (place value : ℕ) : Type 0 where
@@ -123,54 +147,27 @@ judged-met p (d ∷ ds) (v ∷ vs) place value size e = by (eqb v d) refl e (jud
         )
 
 -- an answered fill, or check, was asked for a table of exactly w·h places of an accepted area
-asked-by : (w h : ℕ) (t : List ℕ) (n : ℕ) (answer : Figures) (a b : Bool) → accepted w h ≡ a → eqb (length t) (w * h) ≡ b → on-table w h t n answer .refusal ≡ 0
+asked-so : (w h : ℕ) (t : List ℕ) (n : ℕ) (values : List ℕ) → guarded (table-guards w h (length t)) n values .refusal ≡ 0
     → (accepted w h ≡ true) × (length t ≡ w * h)
-asked-by w h t n answer true true p q e = (p, eqb-true (length t) (w * h) q)
-asked-by w h t n answer true false p q e =
-    absurd (omega (arith, ap (λ f. f .refusal) (length-refused w h t n answer p (eqb-false (length t) (w * h) q))))
-asked-by w h t n answer false b p q e =
-    absurd (refusal-some (area-refusal w h) (ap (λ f. f .refusal) (area-refused w h t n answer p) ∙ e))
-
--- "13, directly after 1 and before everything else": fills and checks are refused with 1 and 13 whatever the table.
-module _ (w h : ℕ) (bad : accepted w h ≡ false) (r : ℕ) (number : refusal-number (area-refusal w h) ≡ r) (t ds : List ℕ) where
-  refused-so : (n : ℕ) (answer : Figures) → on-table w h t n answer ≡ record { refusal = r; values = replicate n 0 }
-  refused-so n answer = sym (area-refused w h t n answer bad) ∙ ap (λ m. record { refusal = m; values = replicate n 0 }) number
-
-  both-refused : (fill w h t ≡ record { refusal = r; values = 0 ∷ [] }) × (check w h ds t ≡ record { refusal = r; values = 0 ∷ 0 ∷ 0 ∷ [] })
-  unfolding fill check
-  both-refused = (refused-so 1 (answered (length (blocks (whole w h)) ∷ [])), refused-so 3 (answered (judged 0 ds t)))
-
-pub tables-refused-1 : (w h : ℕ) → lengths-accepted w h ≡ false → (t ds : List ℕ)
-    → (fill w h t ≡ record { refusal = 1; values = 0 ∷ [] }) × (check w h ds t ≡ record { refusal = 1; values = 0 ∷ 0 ∷ 0 ∷ [] })
-tables-refused-1 w h bad = both-refused w h (lengths-refused w h bad) 1 (area-refused-1 w h bad)
-
-pub tables-refused-13 : (w h : ℕ) → lengths-accepted w h ≡ true → most-squares < w * h → (t ds : List ℕ)
-    → (fill w h t ≡ record { refusal = 13; values = 0 ∷ [] }) × (check w h ds t ≡ record { refusal = 13; values = 0 ∷ 0 ∷ 0 ∷ [] })
-tables-refused-13 w h ok more = both-refused w h (squares-refused w h more) 13 (area-refused-13 w h ok)
+asked-so w h t n values e =
+    table-granted w h (length t) (all-pass (table-guards w h (length t)) (answered-exactly (table-guards w h (length t)) n values .0 e))
 
 module _ (w h : ℕ) (t : List ℕ) where
-  -- "A table's length must be exactly w·h": of an accepted area any other is refusal 4, in fills and checks.
-  pub other-length-refused : (ds : List ℕ) → accepted w h ≡ true → (length t ≡ w * h → ⊥)
-      → (fill w h t ≡ refused TableLength 1) × (check w h ds t ≡ refused TableLength 3)
-  unfolding fill check
-  other-length-refused ds ok other =
-      (sym (length-refused w h t 1 (answered (length (blocks (whole w h)) ∷ [])) ok other), sym (length-refused w h t 3 (answered (judged 0 ds t)) ok other))
-
-  -- and a table of that length is filled
+  -- a table of w·h places is filled
   pub that-length-filled : accepted w h ≡ true → length t ≡ w * h → fill w h t .refusal ≡ 0
   unfolding fill
-  that-length-filled ok size = ap (λ f. f .refusal) (taken w h t 1 (answered (length (blocks (whole w h)) ∷ [])) ok size)
+  that-length-filled ok size = ap (λ f. f .refusal) (taken w h t 1 (length (blocks (whole w h)) ∷ []) ok size)
 
   pub fill-asked : fill w h t .refusal ≡ 0 → (accepted w h ≡ true) × (length t ≡ w * h)
   unfolding fill
-  fill-asked = asked-by w h t 1 (answered (length (blocks (whole w h)) ∷ [])) (accepted w h) (eqb (length t) (w * h)) refl refl
+  fill-asked = asked-so w h t 1 (length (blocks (whole w h)) ∷ [])
 
   -- Demand 3: a fill reports all blocks of the division, at most 2 · squares - 1.
   pub all-blocks-reported : (n : ℕ) → fill w h t ≡ answered (n ∷ []) → n ≡ length (blocks (whole w h))
   unfolding fill
   all-blocks-reported n e =
       let was = fill-asked (ap (λ f. f .refusal) e) in
-      ap (figure 0) (sym e ∙ taken w h t 1 (answered (length (blocks (whole w h)) ∷ [])) (was .0) (was .1))
+      ap (figure 0) (sym e ∙ taken w h t 1 (length (blocks (whole w h)) ∷ []) (was .0) (was .1))
 
   pub few-reported : (n : ℕ) → fill w h t ≡ answered (n ∷ []) → n ≤ 2 * (w * h) - 1
   unfolding whole
@@ -194,10 +191,10 @@ module _ (w h : ℕ) (kind : Bool) (t : List ℕ) where
   pub first-wrong-place : (place value : ℕ) → check w h (due-by kind w h) t ≡ answered (1 ∷ place ∷ value ∷ []) → First (due-by kind w h) t place value
   unfolding check
   first-wrong-place place value e =
-      let was = asked-by w h t 3 (answered (judged 0 (due-by kind w h) t)) (accepted w h) (eqb (length t) (w * h)) refl refl (ap (λ f. f .refusal) e) in
+      let was = asked-so w h t 3 (judged 0 (due-by kind w h) t) (ap (λ f. f .refusal) e) in
       let all = limits w h (was .0) in
       let size = was .1 ∙ sym (due-length w h (all .w-least) (all .h-least) kind) in
-      let told = ap (λ f. f .values) (sym (taken w h t 3 (answered (judged 0 (due-by kind w h) t)) (was .0) (was .1)) ∙ e) in
+      let told = ap (λ f. f .values) (sym (taken w h t 3 (judged 0 (due-by kind w h) t) (was .0) (was .1)) ∙ e) in
       let met = judged-met 0 (due-by kind w h) t place value size told in
       subst⁻¹ (λ (p : ℕ). First (due-by kind w h) t p value) (met .1 ∙ zero-add (met .0)) (met .2)
 
@@ -252,7 +249,7 @@ fills-nothing kind promise =
     not-seven kind
     (promise 1 1 (7 ∷ [])
     ∙ sym (given (length (blocks (whole 1 1)) ∷ []) (due-by kind 1 1) (7 ∷ [])
-    (taken 1 1 (7 ∷ []) 1 (answered (length (blocks (whole 1 1)) ∷ [])) one-square refl)))
+    (taken 1 1 (7 ∷ []) 1 (length (blocks (whole 1 1)) ∷ []) one-square refl)))
 
 -- one that finds every table right
 pub finds-all-right :
@@ -267,7 +264,7 @@ four-squares = refl
 four-reported : fill 2 2 (0 ∷ 0 ∷ 0 ∷ 0 ∷ []) ≡ answered (4 ∷ [])
 unfolding fill whole
 four-reported =
-    taken 2 2 (0 ∷ 0 ∷ 0 ∷ 0 ∷ []) 1 (answered (length (blocks (whole 2 2)) ∷ [])) four-squares refl
+    taken 2 2 (0 ∷ 0 ∷ 0 ∷ 0 ∷ []) 1 (length (blocks (whole 2 2)) ∷ []) four-squares refl
     ∙ ap (λ n. answered (n ∷ [])) (sym (blocks-two (square 0 0) +x +y))
 
 pub made-up-count :

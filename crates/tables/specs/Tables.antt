@@ -1,16 +1,15 @@
 -- What a fill and a check of a table say, for every area and every table: document 01, "What a lookup and a table say" and "Refusal numbers"; and by document
 -- 02, order 6, an origin makes no difference to them.
-use mathlib.Core.Bool.{Bool, cond}
+use mathlib.Core.Bool.{Bool, not, cond}
 use mathlib.Core.List.{List, [], _∷_, _++_}
 use Prim.Native.Nat.{ℕ, zero, suc, _+_, _*_, _/_, _%_}
 use lib.Dec.{ltb, eqb}
 use lib.ListN.{length}
 use Rattle.terms.specs.declared.Area.{Area}
-use Rattle.terms.specs.declared.Refusal.the-variants.{TableLength, TooDeep}
-use Rattle.terms.specs.Terms.{most-blocks, accepted, area-refusal, Figures, answered, refused}
+use Rattle.terms.specs.declared.Refusal.the-variants.{AreaLimit, TableLength, TooDeep, TooManySquares}
+use Rattle.terms.specs.Terms.{lengths-accepted, squares-accepted, most-blocks, Figures, answered, refused}
+use Rattle.terms.specs.Guards.{Guard, _else_, guarded}
 use Rattle.division.specs.Division.{square, whole, curve, blocks, square-of, number-of, blocks-holding, count}
-use Rattle.tables.specs.declared.Admission.{Admission}
-use Rattle.tables.specs.declared.Admission.the-variants.{Granted, Refused}
 use Rattle.tables.specs.declared.FillAnswer as FillAnswers
 use Rattle.tables.specs.declared.CheckAnswer as CheckAnswers
 
@@ -31,25 +30,22 @@ by-square w h = places (λ p. number-of (whole w h) (square (p % w) (p / w))) (w
 unfoldable pub some-deep : (w h : ℕ) → Bool
 some-deep w h = ltb 0 (count (λ s. ltb most-blocks (blocks-holding (whole w h) s)) (curve (whole w h)))
 
--- "A table's length must be exactly w·h." The area comes first, with 1 and 13.
-abbrev pub admission : (w h places : ℕ) → Admission
-admission w h places = cond (accepted w h) (cond (eqb places (w * h)) Granted (Refused TableLength)) (Refused (area-refusal w h))
+-- "For library calls the order is 1, then whichever of 2, 3, 4 belongs to the call, then 9", and 13 "directly after 1". "A table's length must be exactly w·h."
+abbrev pub table-guards : (w h places : ℕ) → List Guard
+table-guards w h places =
+    lengths-accepted w h else AreaLimit
+    ∷ squares-accepted (w * h) else TooManySquares
+    ∷ eqb places (w * h) else TableLength
+    ∷ not (some-deep w h) else TooDeep
+    ∷ []
 
--- "For library calls the order is 1, then whichever of 2, 3, 4 belongs to the call, then 9." What a call on a table answers, where n values would be
--- answered, and what is left of a table that it fills: "the table is unaltered".
-abbrev pub as-admitted : Admission → (w h n : ℕ) → Figures → Figures
-as-admitted Granted w h n answer = cond (some-deep w h) (refused TooDeep n) answer
-as-admitted (Refused r) w h n answer = refused r n
-
-unfoldable pub on-table : (w h : ℕ) → List ℕ → (n : ℕ) → Figures → Figures
-on-table w h table n answer = as-admitted (admission w h (length table)) w h n answer
-
+-- What is left of a table that a call fills: "the table is unaltered" where it is refused.
 unfoldable pub unless-refused : Figures → (filled table : List ℕ) → List ℕ
 unless-refused answer filled table = cond (eqb (answer .refusal) 0) filled table
 
 -- A fill reports "all blocks of the division".
 unfoldable pub fill : (w h : ℕ) → List ℕ → Figures
-fill w h table = on-table w h table 1 (answered (length (blocks (whole w h)) ∷ []))
+fill w h table = guarded (table-guards w h (length table)) 1 (length (blocks (whole w h)) ∷ [])
 
 -- The figures of a fill's answer.
 abbrev pub fill-figures : FillAnswers.FillAnswer → Figures
@@ -66,7 +62,7 @@ abbrev pub due-by : (kind-by-square : Bool) (w h : ℕ) → List ℕ
 due-by kind-by-square w h = cond kind-by-square (by-square w h) (by-number w h)
 
 unfoldable pub check : (w h : ℕ) → (due table : List ℕ) → Figures
-check w h due table = on-table w h table 3 (answered (judged 0 due table))
+check w h due table = guarded (table-guards w h (length table)) 3 (judged 0 due table)
 
 -- Order 6: "table contents and numbers are unaffected", and 12 is for "calls that ask or answer squares". So of an area with an origin these calls see the
 -- lengths alone: what a fill answers, the table afterwards, and what a check answers.

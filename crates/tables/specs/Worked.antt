@@ -5,9 +5,8 @@ use mathlib.Core.List.{List, [], _∷_}
 use Prim.Native.Nat.{ℕ}
 use lib.Dec.{T}
 use lib.ListN.{replicate}
-use Rattle.terms.specs.Terms.{accepted, area-refusal}
 use Rattle.terms.specs.Comparing.{same-numbers, same-figures}
-use Rattle.tables.specs.Tables.{by-number, by-square, on-table, fill, check}
+use Rattle.tables.specs.Tables.{by-number, by-square, fill, check}
 
 -- A line of the table: for a w by h area, a table of so many places is refused so, by fills and by checks.
 pub record Case : Type 0 where
@@ -52,5 +51,5 @@ worked =
     ∷ []
 
 pub worked-right : T (all-right worked)
-unfolding worked all-right right same-figures same-numbers fill check on-table accepted area-refusal
+unfolding worked all-right right same-figures same-numbers fill check
 worked-right = tt

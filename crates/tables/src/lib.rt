@@ -1,13 +1,15 @@
 // Filling and checking tables for a whole area.
 use division::Placed;
+use terms::Admission;
 use terms::Area;
 use terms::Refusal;
 ghost use mathlib.Core.Path.{_≡_};
 ghost use Rattle.division.specs.Division.{whole};
 ghost use Rattle.division.specs.Forms.{block};
 ghost use Rattle.terms.specs.Terms.{answered};
+ghost use Rattle.terms.specs.Guards.{admitted};
 ghost use Rattle.leaves.specs.Walk.{Fits};
-ghost use Rattle.tables.specs.Tables.{admission, judged, by-number, by-square, unless-refused, due-by, fill, fill-figures};
+ghost use Rattle.tables.specs.Tables.{table-guards, judged, by-number, by-square, unless-refused, due-by, fill, fill-figures};
 ghost use Rattle.tables.specs.Tables.{check, check-figures, fill-at, filled-at, check-at};
 
 // What a fill answers.
@@ -37,25 +39,18 @@ fn whole_block(area: Area) -> Placed
     }
 }
 
-// Whether a call may go on with a table.
-enum Admission {
-    Granted,
-    Refused(Refusal),
-}
-
-// The area, and the length of its table, before any place of that is looked at.
+// The area, and then the length of its table, before any place of that is looked at. Refusal 9 never comes, and is not tried.
 fn admit(area: Area, places: usize) -> Admission
-    ensures { λ r. ⌜ r ≡ admission (area .w) (area .h) places ⌝ }
+    ensures { λ r. ⌜ r ≡ admitted (table-guards (area .w) (area .h) places) ⌝ }
 {
     let w = area.w;
     let h = area.h;
-    if !terms::accepts(area) {
-        return Admission::Refused(terms::area_refusal(area));
-    }
-    if places != w as usize * h as usize {
-        return Admission::Refused(Refusal::TableLength);
-    }
-    Admission::Granted
+    let in_limits = terms::admit_area(area);
+    terms::guard(
+        in_limits,
+        places == w as usize * h as usize,
+        Refusal::TableLength,
+    )
 }
 
 // Fills a table of either kind for a whole area.

@@ -1,3 +1,7 @@
-pub mod Laws
-pub mod Ones
+pub mod Refusals
+pub mod Guards
+pub mod Limits
 pub mod Signs
+pub mod Meanings
+pub mod Places
+pub mod OneAnswer

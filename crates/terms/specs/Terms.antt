@@ -1,9 +1,9 @@
--- The terms that every contract uses: which areas are accepted, the refusals' numbers, an answer's figures on paper, and that an area is judged first.
+-- The terms that every contract uses: which areas and origins are accepted, the refusals' numbers, and an answer's figures on paper.
 -- Document 01, "What is bought" and "Refusal numbers", the refusals of document 02, order 2, the origin of its order 6 and the limit of its order 7.
-use mathlib.Core.Bool.{Bool, _&&_, cond}
+use mathlib.Core.Bool.{Bool, false, _&&_}
 use mathlib.Core.List.{List, [], _∷_}
 use Prim.Native.Nat.{ℕ, _*_}
-use lib.Dec.{leb}
+use lib.Dec.{leb, ltb}
 use lib.IntN.{ℤ, pos, negsuc}
 use lib.ListN.{replicate}
 use lib.Signed.{leZ}
@@ -29,12 +29,9 @@ most-squares = 16777216
 abbrev pub squares-accepted : ℕ → Bool
 squares-accepted n = leb n most-squares
 
+-- An area within both limits.
 unfoldable pub accepted : (w h : ℕ) → Bool
 accepted w h = lengths-accepted w h && squares-accepted (w * h)
-
--- The refusal that an area gets which is not accepted: "w or h is 0 or over 65,535", and "13, directly after 1".
-unfoldable pub area-refusal : (w h : ℕ) → Refusal
-area-refusal w h = cond (lengths-accepted w h) TooManySquares AreaLimit
 
 -- The refusals' numbers, in the table's words.
 abbrev pub refusal-number : Refusal → ℕ
@@ -90,11 +87,6 @@ refused-with r values = record { refusal = refusal-number r; values = values }
 abbrev pub refused : Refusal → ℕ → Figures
 refused r n = refused-with r (replicate n 0)
 
--- "For library calls the order is 1, then ..", and 13 "directly after 1 and before everything else": the answer of a call on an area that is accepted, else
--- the area's refusal, where n values would be answered.
-abbrev pub on-area : (w h n : ℕ) → Figures → Figures
-on-area w h n answer = cond (accepted w h) answer (refused (area-refusal w h) n)
-
 -- The least number that has not 32 bits. An area has fewer squares.
 abbrev pub past-32-bits : ℕ
 past-32-bits = 4294967296
@@ -110,17 +102,9 @@ origin-accepted ox oy = offset-accepted ox && offset-accepted oy
 abbrev pub at-post : (w h : ℕ) → Area
 at-post w h = record { w = w; h = h; ox = pos 0; oy = pos 0 }
 
--- "12 for an origin beyond the range, .. in calls that ask or answer squares directly after 1", and so after 13, which is "directly after 1 and before
--- everything else": whether such a call goes on, and the refusal where it does not.
+-- An area within the limits with an origin within the range: the calls that ask or answer squares take such a one.
 abbrev pub grid-accepted : Area → Bool
 grid-accepted area = accepted (area .w) (area .h) && origin-accepted (area .ox) (area .oy)
-
-abbrev pub grid-refusal : Area → Refusal
-grid-refusal area = cond (accepted (area .w) (area .h)) OriginLimit (area-refusal (area .w) (area .h))
-
--- The answer of a call that asks or answers squares, where it goes on, else the refusal, where n values would be answered.
-abbrev pub on-grid : Area → (n : ℕ) → Figures → Figures
-on-grid area n answer = cond (grid-accepted area) answer (refused (grid-refusal area) n)
 
 -- Natural numbers among integers, and figures so.
 unfoldable pub in-signs : List ℕ → List ℤ
@@ -137,3 +121,8 @@ beyond-any-area = 4294967295
 abbrev pub distance-of : ℤ → ℕ
 distance-of (pos d) = d
 distance-of (negsuc d) = beyond-any-area
+
+-- "x >= w or y >= h", "with the origin subtracted": the difference is below a length, and not negative.
+abbrev pub below : (difference : ℤ) (length : ℕ) → Bool
+below (pos d) n = ltb d n
+below (negsuc d) n = false

@@ -1,8 +1,10 @@
-// What every call shares: the area with its origin, whether they are accepted, and the refusals by name and number.
+// What every call shares: the area with its origin, the refusals by name and number, and the guards that a call goes through in turn.
 ghost use mathlib.Core.Path.{_≡_};
+ghost use Prim.Native.Nat.{_*_};
 ghost use lib.IntN.{_-ℤ_};
-ghost use Rattle.terms.specs.Terms.{length-accepted, lengths-accepted, squares-accepted, accepted, area-refusal, refusal-number};
-ghost use Rattle.terms.specs.Terms.{offset-accepted, origin-accepted, at-post, grid-accepted, grid-refusal, distance-of};
+ghost use Rattle.terms.specs.Terms.{length-accepted, lengths-accepted, squares-accepted, refusal-number};
+ghost use Rattle.terms.specs.Terms.{offset-accepted, origin-accepted, at-post, distance-of};
+ghost use Rattle.terms.specs.Guards.{_else_, admitted, then-guard, area-guards, grid-guards};
 
 // The longest width or height.
 const LONGEST_SIDE: u32 = 65535;
@@ -46,6 +48,27 @@ pub enum Refusal {
     TooManySquares,
 }
 
+// Whether a call goes on, or why it does not.
+pub enum Admission {
+    Granted,
+    Refused(Refusal),
+}
+
+// One guard more, after those that were tried: what is refused already stays so.
+pub fn guard(before: Admission, holds: bool, refusal: Refusal) -> Admission
+    ensures { λ r. ⌜ r ≡ then-guard before (holds else refusal) ⌝ }
+{
+    match before {
+        Admission::Refused(r) => Admission::Refused(r),
+        Admission::Granted => {
+            if holds {
+                return Admission::Granted;
+            }
+            Admission::Refused(refusal)
+        }
+    }
+}
+
 // Whether a width or a height is within the limit.
 fn is_length(n: u32) -> bool
     ensures { λ r. ⌜ r ≡ length-accepted n ⌝ }
@@ -57,7 +80,7 @@ fn is_length(n: u32) -> bool
 }
 
 // Whether both lengths of an area are within the limit.
-pub fn accepts_lengths(area: Area) -> bool
+fn accepts_lengths(area: Area) -> bool
     ensures { λ r. ⌜ r ≡ lengths-accepted (area .w) (area .h) ⌝ }
 {
     if is_length(area.w) {
@@ -66,33 +89,13 @@ pub fn accepts_lengths(area: Area) -> bool
     false
 }
 
-// Whether so many squares are within the limit.
-pub fn accepts_squares(n: u64) -> bool
-    ensures { λ r. ⌜ r ≡ squares-accepted n ⌝ }
-{
-    n <= MOST_SQUARES
-}
-
-// Whether an area is within the limits.
-pub fn accepts(area: Area) -> bool
-    ensures { λ r. ⌜ r ≡ accepted (area .w) (area .h) ⌝ }
+// Whether an area's squares are within the limit. The product of any two 32-bit numbers has 64 bits.
+fn accepts_squares(area: Area) -> bool
+    ensures { λ r. ⌜ r ≡ squares-accepted (area .w * area .h) ⌝ }
 {
     let w = area.w;
     let h = area.h;
-    if accepts_lengths(area) {
-        return accepts_squares(w as u64 * h as u64);
-    }
-    false
-}
-
-// The refusal of an area that is not accepted. The lengths are judged before the squares.
-pub fn area_refusal(area: Area) -> Refusal
-    ensures { λ r. ⌜ r ≡ area-refusal (area .w) (area .h) ⌝ }
-{
-    if accepts_lengths(area) {
-        return Refusal::TooManySquares;
-    }
-    Refusal::AreaLimit
+    w as u64 * h as u64 <= MOST_SQUARES
 }
 
 // Whether the x or the y of an origin is within the range.
@@ -127,24 +130,28 @@ pub fn at_post(w: u32, h: u32) -> Area
     }
 }
 
-// Whether an area may be asked about its squares: it is accepted, and its origin is within the range.
-pub fn accepts_grid(area: Area) -> bool
-    ensures { λ r. ⌜ r ≡ grid-accepted area ⌝ }
+// The guards of every call: the lengths, and then the squares.
+pub fn admit_area(area: Area) -> Admission
+    ensures { λ r. ⌜ r ≡ admitted (area-guards (area .w) (area .h)) ⌝ }
 {
-    if accepts(area) {
-        return accepts_origin(area.ox, area.oy);
-    }
-    false
+    let lengths = guard(
+        Admission::Granted,
+        accepts_lengths(area),
+        Refusal::AreaLimit,
+    );
+    guard(lengths, accepts_squares(area), Refusal::TooManySquares)
 }
 
-// The refusal of an area that may not be asked about its squares. The origin is judged directly after the area.
-pub fn grid_refusal(area: Area) -> Refusal
-    ensures { λ r. ⌜ r ≡ grid-refusal area ⌝ }
+// And of every call that asks or answers squares: the origin after them.
+pub fn admit_grid(area: Area) -> Admission
+    ensures { λ r. ⌜ r ≡ admitted (grid-guards area) ⌝ }
 {
-    if accepts(area) {
-        return Refusal::OriginLimit;
-    }
-    area_refusal(area)
+    let in_limits = admit_area(area);
+    guard(
+        in_limits,
+        accepts_origin(area.ox, area.oy),
+        Refusal::OriginLimit,
+    )
 }
 
 // How far a place of the site grid lies east or north of the origin. One that lies before it is told as farther than any area reaches, so that one test

@@ -1,7 +1,6 @@
 pub mod Determined
-pub mod Tallied
+pub mod CountedRuns
 pub mod Answers
-pub mod Places
-pub mod OnGrid
-pub mod Sited
+pub mod Refused
+pub mod Moved
 pub mod Promises

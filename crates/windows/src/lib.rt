@@ -1,12 +1,13 @@
 // The numbers of a window's squares, as runs.
+use panes::Pane;
+use terms::Admission;
 use terms::Area;
 use terms::Refusal;
+ghost use mathlib.Core.List.{[]};
 ghost use mathlib.Core.Path.{_≡_};
-ghost use lib.IntN.{_-ℤ_};
-ghost use Rattle.terms.specs.Terms.{distance-of};
-ghost use Rattle.windows.specs.Windows.{corners-inside, runs-figures};
-ghost use Rattle.windows.specs.Grid.{uncrossed-at, old-corners, admission-at, runs-for-window-at, slice-after-at};
-ghost use Rattle.windows.specs.Asking.{Lies, within-figures, within-slice};
+ghost use Rattle.terms.specs.Guards.{admitted, first};
+ghost use Rattle.windows.specs.Windows.{uncrossed, old-corners, window-guards, runs-for-window-at, slice-after-at, runs-figures};
+ghost use Rattle.windows.specs.Within.{old-corners-inside, Lies, within-figures, within-slice};
 
 // The squares with x from x0 to x1 and y from y0 to y1, ends included, on the site grid.
 pub struct Window {
@@ -31,15 +32,9 @@ pub enum RunsAnswer {
     Refused(Refusal),
 }
 
-// Whether a call may go on with a window.
-enum Admission {
-    Granted,
-    Refused(Refusal),
-}
-
 // Whether a window's corners are in order.
 fn is_uncrossed(window: Window) -> bool
-    ensures { λ r. ⌜ r ≡ uncrossed-at window ⌝ }
+    ensures { λ r. ⌜ r ≡ uncrossed window ⌝ }
 {
     if window.x1 < window.x0 {
         return false;
@@ -47,34 +42,21 @@ fn is_uncrossed(window: Window) -> bool
     window.y0 <= window.y1
 }
 
-// How far east, and how far north, of the origin a place lies.
-fn east_of(area: Area, x: i32) -> u32
-    ensures { λ r. ⌜ r ≡ distance-of (x -ℤ area .ox) ⌝ }
-{
-    terms::distance(x, area.ox)
-}
-
-fn north_of(area: Area, y: i32) -> u32
-    ensures { λ r. ⌜ r ≡ distance-of (y -ℤ area .oy) ⌝ }
-{
-    terms::distance(y, area.oy)
-}
-
 // The corners with the origin subtracted.
 fn corners_of(area: Area, window: Window) -> Corners
     ensures { λ r. ⌜ r ≡ old-corners area window ⌝ }
 {
     Corners {
-        x0: east_of(area, window.x0),
-        y0: north_of(area, window.y0),
-        x1: east_of(area, window.x1),
-        y1: north_of(area, window.y1),
+        x0: terms::distance(window.x0, area.ox),
+        y0: terms::distance(window.y0, area.oy),
+        x1: terms::distance(window.x1, area.ox),
+        y1: terms::distance(window.y1, area.oy),
     }
 }
 
 // Whether both corners lie in the area. A corner before the origin is far beyond it here.
 fn lies_inside(area: Area, corners: Corners) -> bool
-    ensures { λ r. ⌜ r ≡ corners-inside (area .w) (area .h) corners ⌝ }
+    ensures { λ r. ⌜ r ≡ old-corners-inside (area .w) (area .h) corners ⌝ }
 {
     if area.w <= corners.x0 {
         return false;
@@ -89,19 +71,13 @@ fn lies_inside(area: Area, corners: Corners) -> bool
 }
 
 // The area with its origin, and then the window's corners.
-fn admit(area: Area, window: Window) -> Admission
-    ensures { λ r. ⌜ r ≡ admission-at area window ⌝ }
+fn admit(area: Area, window: Window, corners: Corners) -> Admission
+    requires { ⌜ corners ≡ old-corners area window ⌝ }
+    ensures { λ r. ⌜ r ≡ admitted (first 5 (window-guards area window [])) ⌝ }
 {
-    if !terms::accepts_grid(area) {
-        return Admission::Refused(terms::grid_refusal(area));
-    }
-    if !is_uncrossed(window) {
-        return Admission::Refused(Refusal::CornersCrossed);
-    }
-    if !lies_inside(area, corners_of(area, window)) {
-        return Admission::Refused(Refusal::SquareOutside);
-    }
-    Admission::Granted
+    let grid = terms::admit_grid(area);
+    let order = terms::guard(grid, is_uncrossed(window), Refusal::CornersCrossed);
+    terms::guard(order, lies_inside(area, corners), Refusal::SquareOutside)
 }
 
 // The runs of a window that lies in its area. They are counted first, since a slice without room for them is left as it is.
@@ -110,19 +86,21 @@ fn runs_within(area: Area, window: Corners, runs: &mut [u32]) -> RunsAnswer
     ensures answer { λ r. ⌜ runs-figures r ≡ within-figures (area .w) (area .h) window (now (runs .entry)) ⌝ }
     ensures runs { λ r. ⌜ now (runs .exit) ≡ within-slice (area .w) (area .h) window (now (runs .entry)) ⌝ }
 {
-    let w = area.w;
-    let h = area.h;
-    let x0 = window.x0;
-    let y0 = window.y0;
-    let past_x = window.x1 + 1;
-    let past_y = window.y1 + 1;
-    let counted = panes::count_cut(w, h, x0, past_x, y0, past_y, 0, panes::NO_RUNS);
-    let count = (counted / terms::PAST_32_BITS) as u32;
+    let pane = Pane {
+        a: area.w,
+        b: area.h,
+        u0: window.x0,
+        u1: window.x1 + 1,
+        v0: window.y0,
+        v1: window.y1 + 1,
+    };
+    let count = tallies::count_runs(pane);
     if runs.len() / 2 < count as usize {
         return RunsAnswer::Short { count: count };
     }
-    let written = panes::write_cut(runs, w, h, x0, past_x, y0, past_y, 0, panes::NO_RUNS);
-    RunsAnswer::Found { count: count }
+    RunsAnswer::Found {
+        count: tallies::write_runs(runs, pane),
+    }
 }
 
 // The runs of a window's numbers, as pairs of first and last.
@@ -130,8 +108,9 @@ pub fn runs_for_window(area: Area, window: Window, runs: &mut [u32]) -> RunsAnsw
     ensures answer { λ r. ⌜ runs-figures r ≡ runs-for-window-at area window (now (runs .entry)) ⌝ }
     ensures runs { λ r. ⌜ now (runs .exit) ≡ slice-after-at area window (now (runs .entry)) ⌝ }
 {
-    match admit(area, window) {
+    let corners = corners_of(area, window);
+    match admit(area, window, corners) {
         Admission::Refused(r) => RunsAnswer::Refused(r),
-        Admission::Granted => runs_within(area, corners_of(area, window), runs),
+        Admission::Granted => runs_within(area, corners, runs),
     }
 }

@@ -9,8 +9,8 @@ use lib.ListN.{length}
 use lib.IntN.{pos}
 use native.Mathlib.Omega.{arith}
 use Rattle.terms.specs.Terms.{Figures, SignedFigures}
-use Rattle.terms.proofs.Laws.{figure, signed-figure}
-use Rattle.terms.proofs.Ones.{by-figures}
+use Rattle.terms.proofs.Refusals.{figure, signed-figure}
+use Rattle.terms.proofs.OneAnswer.{by-figures}
 use Rattle.words.specs.declared.Numeral.{Numeral}
 use Rattle.words.specs.declared.Numeral.the-variants.{Value, NoNumber}
 use Rattle.words.specs.declared.SignedNumeral.{SignedNumeral}

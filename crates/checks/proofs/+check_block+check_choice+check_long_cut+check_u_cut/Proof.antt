@@ -4,11 +4,11 @@ use mathlib.Core.Path.{refl, sym, _∙_}
 use Prim.Native.Nat.{ℕ, _+_, _*_, _<_}
 use native.Mathlib.Omega.{arith}
 use Rattle.division.specs.Forms.{block}
-use Rattle.division.proofs.Walks.{a-limit, b-limit}
+use Rattle.division.proofs.WithinLimits.{a-limit, b-limit}
 use Rattle.leaves.specs.Walk.{least-one}
 use Rattle.leaves.proofs.Entries.{largest}
-use Rattle.leaves.proofs.Parts.{to-cut, part-asks, first-call, second-call, second-number, long-steps, a-call, b-call, c-call, u-deep, u-numbers, u-steps}
-use Rattle.leaves.proofs.Parts.{side-call, side-over}
+use Rattle.leaves.proofs.PartByPart.{to-cut, part-asks, first-call, second-call, second-number, long-steps, a-call, b-call, c-call, u-deep, u-numbers, u-steps}
+use Rattle.leaves.proofs.PartByPart.{side-call, side-over}
 use Rattle.copies.proofs.Siblings.{first-fits}
 use Rattle.checks.proofs.Repeats.{found-before, second-asks, second-stands, c-asks, c-stands}
 use borrow.Fn.Kinds.{In, Out}
@@ -32,7 +32,7 @@ use Rattle.division.proofs.part_a.Reads as part-a-reads
 use Rattle.division.proofs.part_b.Reads as part-b-reads
 use Rattle.division.proofs.part_c.Reads as part-c-reads
 use Rattle.leaves.proofs.check_leaf.Reads as check-leaf-reads
-use Rattle.leaves.proofs.check_run.Reads as check-run-reads
+use Rattle.leaves.proofs.check_straight.Reads as check-straight-reads
 use Rattle.leaves.proofs.exchanged_block.Reads as exchanged-block-reads
 use Rattle.leaves.proofs.pack_wrong.Reads as pack-wrong-reads
 use Rattle.copies.proofs.holds_again.Reads as holds-again-reads
@@ -91,8 +91,8 @@ abbrev check-choice-calls : ℕ → check-choice-lts.Claims
 check-choice-calls t = (
   choose-reads.Asked,
   choose-reads.Learnt,
-  check-run-reads.Asked,
-  check-run-reads.Learnt,
+  check-straight-reads.Asked,
+  check-straight-reads.Learnt,
   exchanged-block-reads.Asked,
   exchanged-block-reads.Learnt,
   check-long-cut-below t,
@@ -191,8 +191,8 @@ check-choice-choose-requires t c κs = (a-limit _ (largest (c .before .pre .1)),
 check-choice-enum-told : (t : ℕ) → check-choice-lts.Need-enum-told (check-choice-calls t) (check-choice-at t) check-choice.Post
 check-choice-enum-told t c = c .match .keys1
 
-check-choice-check-run-requires : (t : ℕ) → check-choice-lts.Need-check-run-requires (check-choice-calls t) (check-choice-at t) check-choice.Post
-check-choice-check-run-requires t c κs = (c .before .before .before .before .pre .1, (sym (c .before .before .choose .ensures) ∙ c .enum-told .given .1))
+check-choice-check-straight-requires : (t : ℕ) → check-choice-lts.Need-check-straight-requires (check-choice-calls t) (check-choice-at t) check-choice.Post
+check-choice-check-straight-requires t c κs = (c .before .before .before .before .pre .1, (sym (c .before .before .choose .ensures) ∙ c .enum-told .given .1))
 
 check-choice-enum-told-2 : (t : ℕ) → check-choice-lts.Need-enum-told-2 (check-choice-calls t) (check-choice-at t) check-choice.Post
 check-choice-enum-told-2 t c = c .match .keys2
@@ -200,8 +200,8 @@ check-choice-enum-told-2 t c = c .match .keys2
 check-choice-exchanged-block-requires : (t : ℕ) → check-choice-lts.Need-exchanged-block-requires (check-choice-calls t) (check-choice-at t) check-choice.Post
 check-choice-exchanged-block-requires t c κs = tt
 
-check-choice-check-run-requires-2 : (t : ℕ) → check-choice-lts.Need-check-run-requires-2 (check-choice-calls t) (check-choice-at t) check-choice.Post
-check-choice-check-run-requires-2 t c κs =
+check-choice-check-straight-requires-2 : (t : ℕ) → check-choice-lts.Need-check-straight-requires-2 (check-choice-calls t) (check-choice-at t) check-choice.Post
+check-choice-check-straight-requires-2 t c κs =
     let chosen = c .before .before .before in
     let start = chosen .before .before in
     side-call (start .pre .1) (sym (chosen .choose .ensures) ∙ c .before .enum-told2 .given .1) (c .exchanged-block .result) (c .exchanged-block .ensures)
@@ -234,14 +234,14 @@ check-choice-check-u-cut-requires t c κs =
     to-cut (chosen .before .before .pre) (chosen .choose .ensures) (c .before .enum-told4 .given .1)
 
 check-choice-returns-2 : (t : ℕ) → check-choice-lts.Need-returns-2 (check-choice-calls t) (check-choice-at t) check-choice.Post
-check-choice-returns-2 t c = c .check-run .ensures
+check-choice-returns-2 t c = c .check-straight .ensures
 
 check-choice-returns-3 : (t : ℕ) → check-choice-lts.Need-returns-3 (check-choice-calls t) (check-choice-at t) check-choice.Post
 check-choice-returns-3 t c =
     let told = c .before .before in
     let chosen = told .before .before in
     let start = chosen .before .before in
-    c .check-run2 .ensures
+    c .check-straight2 .ensures
     ∙ side-over (start .pre .1) (sym (chosen .choose .ensures) ∙ told .enum-told2 .given .1) (least-one (start .args .by-square) (start .args .table .now))
     (start .args .so-far) (c .before .exchanged-block .result) (c .before .exchanged-block .ensures)
 
@@ -412,10 +412,10 @@ pub +check-block+check-choice+check-long-cut+check-u-cut-spec : {M : Type 1} →
     check-choice.Post
     (check-choice-choose-requires t)
     (check-choice-enum-told t)
-    (check-choice-check-run-requires t)
+    (check-choice-check-straight-requires t)
     (check-choice-enum-told-2 t)
     (check-choice-exchanged-block-requires t)
-    (check-choice-check-run-requires-2 t)
+    (check-choice-check-straight-requires-2 t)
     (check-choice-enum-told-3 t)
     (check-choice-check-long-cut-requires t)
     (check-choice-enum-told-4 t)

@@ -5,7 +5,7 @@ use mathlib.Core.List.{[], _∷_}
 use Prim.Native.Nat.{_*_}
 use lib.IntN.{pos}
 use Rattle.terms.proofs.Signs.{held}
-use Rattle.curve.specs.Grid.{finish-square-at, finish-figures}
+use Rattle.curve.specs.Lookups.{finish-square-at, finish-figures}
 use Rattle.clerk.specs.Clerk.{Area-set, says, from-call}
 use Rattle.clerk.proofs.Handling.{call-refused, found-fits}
 use Rattle.clerk.proofs.area_reply.Statement.{statement}

@@ -4,7 +4,7 @@ use mathlib.Core.Path.{_≡_, sym, ap, ap₂, _∙_}
 use mathlib.Core.List.{[], _∷_}
 use lib.IntN.{pos}
 use Rattle.terms.proofs.Signs.{held}
-use Rattle.curve.specs.Grid.{square-figures}
+use Rattle.curve.specs.Lookups.{square-figures}
 use Rattle.clerk.specs.Clerk.{Cell, says, from-call}
 use Rattle.clerk.proofs.Handling.{call-refused}
 use Rattle.clerk.proofs.cell_reply.Statement.{statement}

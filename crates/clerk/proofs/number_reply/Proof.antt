@@ -5,7 +5,7 @@ use mathlib.Core.List.{[]}
 use Rattle.terms.specs.Terms.{signed, in-signs}
 use Rattle.terms.proofs.Signs.{kept}
 use Rattle.curve.specs.Lookups.{number-figures}
-use Rattle.curve.specs.Grid.{square-to-number-at}
+use Rattle.curve.specs.Lookups.{square-to-number-at}
 use Rattle.clerk.specs.Clerk.{Number, from-call}
 use Rattle.clerk.proofs.Handling.{call-refused}
 use Rattle.clerk.proofs.number_reply.Statement.{statement}

@@ -4,7 +4,7 @@ use mathlib.Core.List.{[]}
 use mathlib.Core.Path.{_≡_, sym, ap, ap₂, _∙_}
 use Rattle.terms.specs.Terms.{signed}
 use Rattle.terms.proofs.Signs.{held}
-use Rattle.curve.specs.Grid.{square-to-number-at}
+use Rattle.curve.specs.Lookups.{square-to-number-at}
 use Rattle.clerk.specs.Clerk.{Number, from-call, origin-reply, reply-to}
 use Rattle.clerk.proofs.reply_to.Statement.{statement}
 use Rattle.clerk.proofs.reply_to.Tie as tie

@@ -6,7 +6,7 @@ use Prim.Native.Nat.{ℕ, _+_, _%_, _<_}
 use native.Mathlib.Omega.{arith}
 use Rattle.terms.specs.Terms.{past-32-bits}
 use Rattle.division.specs.Forms.{block}
-use Rattle.division.proofs.Walks.{product-limit}
+use Rattle.division.proofs.WithinLimits.{product-limit}
 use Rattle.leaves.specs.Walk.{place}
 use Rattle.copies.specs.Copies.{image}
 use Rattle.copies.proofs.Alike.{start-below}

@@ -1,7 +1,7 @@
 -- `curve::square_unless_deep` meets its contract: the test is the definition's, and each coordinate is moved by its own side of the origin.
 use borrow.Author.Needs.{needs}
 use Rattle.terms.proofs.Signs.{kept}
-use Rattle.curve.proofs.OnGrid.{shifted-kept, few-told, deep-told}
+use Rattle.curve.proofs.Answers.{shifted-kept, few-told, deep-told}
 use Rattle.curve.proofs.square_unless_deep.Statement.{statement}
 use Rattle.curve.proofs.square_unless_deep.Tie as tie
 

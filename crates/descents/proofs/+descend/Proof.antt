@@ -3,7 +3,7 @@
 use mathlib.Core.Path.{sym, subst, _∙_}
 use Prim.Native.Nat.{ℕ, _*_, _<_}
 use native.Mathlib.Omega.{arith}
-use Rattle.division.proofs.Walks.{a-limit, b-limit}
+use Rattle.division.proofs.WithinLimits.{a-limit, b-limit}
 use Rattle.descents.proofs.PartWithNumber.{run-steps, run-count, run-packed, side-steps, side-count, side-packed, next-descent, next-count, next-packed}
 use borrow.Fn.Kinds.{In}
 use borrow.Fn.PlainCycle.{Measures, is, falls, and}

@@ -9,7 +9,7 @@ use Rattle.division.specs.Division.{Block, even-half, First, Second, part}
 use Rattle.division.proofs.Rules.{halves}
 use Rattle.division.specs.Forms.{block}
 use Rattle.division.proofs.Cases.{long-lengths}
-use Rattle.division.proofs.Walks.{a-limit, b-limit, product-limit}
+use Rattle.division.proofs.WithinLimits.{a-limit, b-limit, product-limit}
 use Rattle.descents.specs.Descents.{Enters}
 use Rattle.descents.proofs.PartWithNumber.{rest-of, long-enters}
 use Rattle.descents.proofs.long_with.Statement.{statement}

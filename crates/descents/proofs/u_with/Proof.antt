@@ -2,7 +2,7 @@
 use borrow.Author.Needs.{needs}
 use native.Mathlib.Omega.{arith}
 use Rattle.division.specs.Forms.{block}
-use Rattle.division.proofs.Walks.{b-limit}
+use Rattle.division.proofs.WithinLimits.{b-limit}
 use Rattle.descents.proofs.PartWithNumber.{block-sums, a-enters, b-enters, c-enters}
 use Rattle.descents.proofs.u_with.Statement.{statement}
 use Rattle.descents.proofs.u_with.Tie as tie

@@ -1,6 +1,6 @@
 -- `division::even_half` meets its contract: of a length over 2 it is twice ((L + 2) div 4), which does not wrap, since L is at most 65,535.
 use borrow.Author.Needs.{needs}
-use Rattle.division.proofs.Walks.{half-small, half-large}
+use Rattle.division.proofs.EvenHalf.{half-small, half-large}
 use Rattle.division.proofs.even_half.Statement.{statement}
 use Rattle.division.proofs.even_half.Tie as tie
 

@@ -2,7 +2,7 @@
 use borrow.Author.Needs.{needs}
 use native.Mathlib.Omega.{arith}
 use Rattle.division.proofs.Rules.{halves}
-use Rattle.division.proofs.Walks.{long-spot, skip-within}
+use Rattle.division.proofs.PlacedParts.{long-spot, skip-within}
 use Rattle.division.proofs.in_long.Statement.{statement}
 use Rattle.division.proofs.in_long.Tie as tie
 

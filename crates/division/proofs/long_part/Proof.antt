@@ -8,7 +8,8 @@ use Rattle.division.specs.Division.{even-half}
 use Rattle.division.proofs.Rules.{halves}
 use Rattle.division.specs.Forms.{block}
 use Rattle.division.proofs.Cases.{long-lengths}
-use Rattle.division.proofs.Walks.{a-limit, steps-along, long-block}
+use Rattle.division.proofs.PlacedParts.{steps-along, long-block}
+use Rattle.division.proofs.WithinLimits.{a-limit}
 use Rattle.division.proofs.long_part.Statement.{statement}
 use Rattle.division.proofs.long_part.Tie as tie
 

@@ -1,7 +1,8 @@
 -- `division::part_a` meets its contract: run and side exchange, and with them the bit that says which is along y.
 use borrow.Author.Needs.{needs}
 use Rattle.division.specs.Forms.{block}
-use Rattle.division.proofs.Walks.{b-limit, a-block}
+use Rattle.division.proofs.PlacedParts.{a-block}
+use Rattle.division.proofs.WithinLimits.{b-limit}
 use Rattle.division.proofs.part_a.Statement.{statement}
 use Rattle.division.proofs.part_a.Tie as tie
 

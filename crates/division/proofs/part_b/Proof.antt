@@ -4,7 +4,8 @@ use native.Mathlib.Omega.{arith}
 use Rattle.division.proofs.Rules.{halves}
 use Rattle.division.specs.Forms.{block}
 use Rattle.division.proofs.Cases.{u-lengths}
-use Rattle.division.proofs.Walks.{b-limit, steps-across, b-block}
+use Rattle.division.proofs.PlacedParts.{steps-across, b-block}
+use Rattle.division.proofs.WithinLimits.{b-limit}
 use Rattle.division.proofs.part_b.Statement.{statement}
 use Rattle.division.proofs.part_b.Tie as tie
 

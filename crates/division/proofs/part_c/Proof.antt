@@ -5,7 +5,8 @@ use Prim.Native.Nat.{_-_}
 use Rattle.division.proofs.Rules.{halves}
 use Rattle.division.specs.Forms.{block}
 use Rattle.division.proofs.Cases.{u-lengths}
-use Rattle.division.proofs.Walks.{b-limit, steps-along, steps-across, c-block}
+use Rattle.division.proofs.PlacedParts.{steps-along, steps-across, c-block}
+use Rattle.division.proofs.WithinLimits.{b-limit}
 use Rattle.division.proofs.part_c.Statement.{statement}
 use Rattle.division.proofs.part_c.Tie as tie
 

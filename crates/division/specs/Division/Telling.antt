@@ -2,7 +2,7 @@
 -- come close to them and that the worked cases let pass. The values are those of the independent program in tests/, and tests/telling.rs compares them.
 -- The two tables tell "2a > 3b: the long cut. Otherwise: the U cut." from other rules of the form pa > qb + r, and pin for lengths up to 12 "The even half
 -- of a length L is L div 2, and one more if L > 2 and L div 2 is odd.", "m = a div 2 (never made even)", and of A that it "runs in the block's side
--- direction".
+-- direction". SingleCuts.antt goes on from there.
 use mathlib.Core.List.{List, [], _∷_}
 use lib.Dec.{T}
 use Rattle.division.specs.Division.{square}

@@ -1,7 +1,7 @@
 -- `exports::area_in_force` meets its contract.
 use borrow.Author.Needs.{needs}
 use mathlib.Core.Path.{sym, ap, _∙_}
-use Rattle.exports.specs.Handling.{area-of}
+use Rattle.boundary.specs.Handling.{area-of}
 use Rattle.exports.proofs.area_in_force.Statement.{statement}
 use Rattle.exports.proofs.area_in_force.Tie as tie
 

@@ -8,7 +8,7 @@ use mir.Val.{SFits, Fits, toZ}
 use Rattle.terms.proofs.Signs.{wide, widens, widened}
 use Rattle.clerk.specs.declared.Reply.{Reply}
 use Rattle.clerk.specs.Clerk.{said}
-use Rattle.exports.specs.Handling.{shown}
+use Rattle.boundary.specs.Handling.{shown}
 use Rattle.exports.proofs.Values.{wide-number}
 use Rattle.exports.proofs.numbers_of.Statement.{statement}
 use Rattle.exports.proofs.numbers_of.Tie as tie

@@ -8,7 +8,7 @@ use Rattle.clerk.specs.declared.Reply.{Reply}
 use Rattle.clerk.specs.declared.Reply.the-variants.{AreaSet, OriginSet, Cell, Number, Refused}
 use Rattle.clerk.specs.Clerk.{said}
 use Rattle.clerk.proofs.Reply.{the-type}
-use Rattle.exports.specs.Handling.{refusal-said}
+use Rattle.boundary.specs.Handling.{refusal-said}
 use Rattle.exports.proofs.refusal_said.Statement.{statement}
 use Rattle.exports.proofs.refusal_said.Tie as tie
 

@@ -4,7 +4,7 @@ use mathlib.Core.List.{_∷_, _++_}
 use mathlib.Core.Path.{ap, ap₂, _∙_}
 use lib.ListN.{take, drop}
 use lib.Seq.{drop-drop}
-use Rattle.exports.specs.Handling.{state}
+use Rattle.boundary.specs.Handling.{state}
 use Rattle.exports.proofs.tell_reply.Statement.{statement}
 use Rattle.exports.proofs.tell_reply.Tie as tie
 

@@ -5,8 +5,8 @@ use mathlib.Core.Path.{_≡_, refl, ap, ap₂, _∙_}
 use lib.ListN.{drop}
 use Rattle.terms.specs.Terms.{in-signs}
 use Rattle.terms.proofs.Signs.{held}
-use Rattle.curve.specs.Grid.{finish-square-at, finish-figures}
-use Rattle.exports.specs.Boundary.{area-at}
+use Rattle.curve.specs.Lookups.{finish-square-at, finish-figures}
+use Rattle.boundary.specs.Boundary.{area-at}
 use Rattle.exports.proofs.Values.{kept-area, short, found}
 use Rattle.exports.proofs.uvalinda_finish_square.Statement.{statement}
 use Rattle.exports.proofs.uvalinda_finish_square.Tie as tie

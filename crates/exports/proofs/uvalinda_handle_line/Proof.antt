@@ -2,7 +2,7 @@
 use borrow.Author.Needs.{needs}
 use mathlib.Core.Path.{ap, _∙_}
 use Rattle.clerk.specs.Clerk.{clerk-under}
-use Rattle.exports.specs.Handling.{handled}
+use Rattle.boundary.specs.Handling.{handled}
 use Rattle.exports.proofs.Values.{kept-area, short, answer, handled-as}
 use Rattle.exports.proofs.uvalinda_handle_line.Statement.{statement}
 use Rattle.exports.proofs.uvalinda_handle_line.Tie as tie

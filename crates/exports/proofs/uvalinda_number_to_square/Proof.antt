@@ -8,9 +8,9 @@ use lib.IntN.{pos}
 use lib.ListN.{drop}
 use Rattle.terms.specs.Terms.{in-signs}
 use Rattle.terms.proofs.Signs.{held}
-use Rattle.curve.specs.Grid.{number-to-square-at, square-figures}
-use Rattle.curve.proofs.Calls.{at-most-41-blocks}
-use Rattle.exports.specs.Boundary.{area-at}
+use Rattle.curve.specs.Lookups.{number-to-square-at, square-figures}
+use Rattle.curve.proofs.Demands.{at-most-41-blocks}
+use Rattle.boundary.specs.Boundary.{area-at}
 use Rattle.exports.proofs.Values.{kept-area, short, found}
 use Rattle.exports.proofs.uvalinda_number_to_square.Statement.{statement}
 use Rattle.exports.proofs.uvalinda_number_to_square.Tie as tie

@@ -1,8 +1,8 @@
 -- `exports::uvalinda_runs_for_window` meets its contract: what the call leaves and answers, told.
 use borrow.Author.Needs.{needs}
 use mathlib.Core.Path.{ap₂, _∙_}
-use Rattle.windows.specs.Grid.{runs-for-window-at, slice-after-at}
-use Rattle.exports.specs.Boundary.{area-at, window-at}
+use Rattle.windows.specs.Windows.{runs-for-window-at, slice-after-at}
+use Rattle.boundary.specs.Boundary.{area-at, window-at}
 use Rattle.exports.proofs.Values.{kept-area, kept-window, lent-short, lent-told}
 use Rattle.exports.proofs.uvalinda_runs_for_window.Statement.{statement}
 use Rattle.exports.proofs.uvalinda_runs_for_window.Tie as tie

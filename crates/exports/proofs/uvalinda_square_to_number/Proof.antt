@@ -3,8 +3,8 @@ use borrow.Author.Needs.{needs}
 use mathlib.Core.Path.{_≡_, refl, ap, ap₂, _∙_}
 use Rattle.terms.proofs.Signs.{held, kept}
 use Rattle.curve.specs.Lookups.{number-figures}
-use Rattle.curve.specs.Grid.{square-to-number-at}
-use Rattle.exports.specs.Boundary.{area-at}
+use Rattle.curve.specs.Lookups.{square-to-number-at}
+use Rattle.boundary.specs.Boundary.{area-at}
 use Rattle.exports.proofs.Values.{kept-area, short, found}
 use Rattle.exports.proofs.uvalinda_square_to_number.Statement.{statement}
 use Rattle.exports.proofs.uvalinda_square_to_number.Tie as tie

@@ -5,11 +5,11 @@ use Prim.Native.Nat.{ℕ, _+_, _*_, _<_}
 use native.Mathlib.Omega.{arith}
 use lib.ListN.{length}
 use Rattle.division.specs.Division.{blocks}
-use Rattle.division.proofs.Walks.{a-limit, b-limit}
+use Rattle.division.proofs.WithinLimits.{a-limit, b-limit}
 use Rattle.leaves.specs.Walk.{enter-one}
 use Rattle.leaves.proofs.Entries.{largest}
-use Rattle.leaves.proofs.Parts.{to-cut, part-asks, first-call, second-call, second-number, long-steps, a-call, b-call, c-call, u-deep, u-numbers, u-steps}
-use Rattle.leaves.proofs.Parts.{side-call, side-over}
+use Rattle.leaves.proofs.PartByPart.{to-cut, part-asks, first-call, second-call, second-number, long-steps, a-call, b-call, c-call, u-deep, u-numbers, u-steps}
+use Rattle.leaves.proofs.PartByPart.{side-call, side-over}
 use Rattle.copies.proofs.Alike.{again-count}
 use Rattle.copies.proofs.Siblings.{first-fits}
 use Rattle.fills.proofs.Counts.{few, long-count, u-count, side-count}
@@ -36,7 +36,7 @@ use Rattle.division.proofs.part_b.Reads as part-b-reads
 use Rattle.division.proofs.part_c.Reads as part-c-reads
 use Rattle.leaves.proofs.exchanged_block.Reads as exchanged-block-reads
 use Rattle.leaves.proofs.fill_leaf.Reads as fill-leaf-reads
-use Rattle.leaves.proofs.fill_run.Reads as fill-run-reads
+use Rattle.leaves.proofs.fill_straight.Reads as fill-straight-reads
 use Rattle.copies.proofs.fill_again.Reads as fill-again-reads
 use Rattle.fills.proofs.+fill_block+fill_choice+fill_long_cut+fill_u_cut.{statement}
 use Rattle.fills.proofs.+fill_block+fill_choice+fill_long_cut+fill_u_cut.Tie.{close}
@@ -87,8 +87,8 @@ abbrev fill-choice-calls : ℕ → fill-choice-lts.Claims
 fill-choice-calls t = (
   choose-reads.Asked,
   choose-reads.Learnt,
-  fill-run-reads.Asked,
-  fill-run-reads.Learnt,
+  fill-straight-reads.Asked,
+  fill-straight-reads.Learnt,
   exchanged-block-reads.Asked,
   exchanged-block-reads.Learnt,
   fill-long-cut-below t,
@@ -172,8 +172,8 @@ fill-choice-choose-requires t c κs = (a-limit _ (largest (c .before .pre .1)), 
 fill-choice-enum-told : (t : ℕ) → fill-choice-lts.Need-enum-told (fill-choice-calls t) (fill-choice-at t) fill-choice.Post
 fill-choice-enum-told t c = c .match .keys1
 
-fill-choice-fill-run-requires : (t : ℕ) → fill-choice-lts.Need-fill-run-requires (fill-choice-calls t) (fill-choice-at t) fill-choice.Post
-fill-choice-fill-run-requires t c κs =
+fill-choice-fill-straight-requires : (t : ℕ) → fill-choice-lts.Need-fill-straight-requires (fill-choice-calls t) (fill-choice-at t) fill-choice.Post
+fill-choice-fill-straight-requires t c κs =
     let chosen = c .before .before .before in
     let start = chosen .before .before in
     (start .pre .1, (sym (chosen .choose .ensures) ∙ c .before .enum-told .given .1))
@@ -184,8 +184,8 @@ fill-choice-enum-told-2 t c = c .match .keys2
 fill-choice-exchanged-block-requires : (t : ℕ) → fill-choice-lts.Need-exchanged-block-requires (fill-choice-calls t) (fill-choice-at t) fill-choice.Post
 fill-choice-exchanged-block-requires t c κs = tt
 
-fill-choice-fill-run-requires-2 : (t : ℕ) → fill-choice-lts.Need-fill-run-requires-2 (fill-choice-calls t) (fill-choice-at t) fill-choice.Post
-fill-choice-fill-run-requires-2 t c κs =
+fill-choice-fill-straight-requires-2 : (t : ℕ) → fill-choice-lts.Need-fill-straight-requires-2 (fill-choice-calls t) (fill-choice-at t) fill-choice.Post
+fill-choice-fill-straight-requires-2 t c κs =
     let told = c .before .before in
     let chosen = told .before .before in
     let start = chosen .before .before in
@@ -224,13 +224,13 @@ fill-choice-fill-u-cut-requires t c κs =
     to-cut (chosen .before .before .pre) (chosen .choose .ensures) (told .enum-told4 .given .1)
 
 fill-choice-same-length-2 : (t : ℕ) → fill-choice-lts.Need-same-length-2 (fill-choice-calls t) (fill-choice-at t) fill-choice.Post
-fill-choice-same-length-2 t c = c .before .before .fill-run .kept .0
+fill-choice-same-length-2 t c = c .before .before .fill-straight .kept .0
 
 fill-choice-returns-2 : (t : ℕ) → fill-choice-lts.Need-returns-2 (fill-choice-calls t) (fill-choice-at t) fill-choice.Post
-fill-choice-returns-2 t c = c .before .before .fill-run .ensures
+fill-choice-returns-2 t c = c .before .before .fill-straight .ensures
 
 fill-choice-same-length-3 : (t : ℕ) → fill-choice-lts.Need-same-length-3 (fill-choice-calls t) (fill-choice-at t) fill-choice.Post
-fill-choice-same-length-3 t c = c .before .before .fill-run2 .kept .0
+fill-choice-same-length-3 t c = c .before .before .fill-straight2 .kept .0
 
 fill-choice-returns-3 : (t : ℕ) → fill-choice-lts.Need-returns-3 (fill-choice-calls t) (fill-choice-at t) fill-choice.Post
 fill-choice-returns-3 t c =
@@ -242,8 +242,8 @@ fill-choice-returns-3 t c =
     let room = start .pre .1 in
     let case = sym (chosen .choose .ensures) ∙ told .enum-told2 .given .1 in
     let side = exchanged .exchanged-block in (
-      filled .fill-run2 .ensures .0 ∙ side-over room case (enter-one (start .args .by-square)) (start .args .table .now) (side .result) (side .ensures),
-      filled .fill-run2 .ensures .1 ∙ side-count room case (side .result) (side .ensures),
+      filled .fill-straight2 .ensures .0 ∙ side-over room case (enter-one (start .args .by-square)) (start .args .table .now) (side .result) (side .ensures),
+      filled .fill-straight2 .ensures .1 ∙ side-count room case (side .result) (side .ensures),
     )
 
 fill-choice-same-length-4 : (t : ℕ) → fill-choice-lts.Need-same-length-4 (fill-choice-calls t) (fill-choice-at t) fill-choice.Post
@@ -525,10 +525,10 @@ pub +fill-block+fill-choice+fill-long-cut+fill-u-cut-spec : {M : Type 1} → sta
     fill-choice.Post
     (fill-choice-choose-requires t)
     (fill-choice-enum-told t)
-    (fill-choice-fill-run-requires t)
+    (fill-choice-fill-straight-requires t)
     (fill-choice-enum-told-2 t)
     (fill-choice-exchanged-block-requires t)
-    (fill-choice-fill-run-requires-2 t)
+    (fill-choice-fill-straight-requires-2 t)
     (fill-choice-enum-told-3 t)
     (fill-choice-fill-long-cut-requires t)
     (fill-choice-enum-told-4 t)

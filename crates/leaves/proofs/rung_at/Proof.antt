@@ -4,7 +4,8 @@ use native.Mathlib.Nat.{mul-le-mul}
 use native.Mathlib.Omega.{arith}
 use Rattle.terms.specs.Terms.{longest-side}
 use Rattle.division.specs.Forms.{block}
-use Rattle.division.proofs.Walks.{steps-along, steps-across, inside-grow}
+use Rattle.division.proofs.PlacedParts.{steps-along, steps-across}
+use Rattle.division.proofs.WithinLimits.{inside-grow}
 use Rattle.leaves.proofs.Leaves.{near-below, far-below, near-is, far-is}
 use Rattle.leaves.proofs.rung_at.Statement.{statement}
 use Rattle.leaves.proofs.rung_at.Tie as tie

@@ -1,5 +1,5 @@
 -- `panes::count_leaf` meets its contract: the line up and the line down, one after the other, are what is seen of the pane.
-use Rattle.panes.proofs.Shapes.{up-joins, down-joins, down-told}
+use Rattle.panes.proofs.Leaves.{up-joins, down-joins, down-told}
 use mathlib.Core.List.{[]}
 use borrow.Author.Needs.{needs}
 use Rattle.panes.proofs.count_leaf.Statement.{statement}

@@ -1,5 +1,5 @@
 -- `panes::join_some` meets its contract: a stretch that has numbers is joined, one that has none changes nothing.
-use Rattle.panes.proofs.Shapes.{some-told, none-told, count-joined}
+use Rattle.panes.proofs.TakingUp.{some-told, none-told, count-joined}
 use Rattle.panes.specs.Panes.{tally}
 use mathlib.Core.List.{[]}
 use mathlib.Core.Path.{_∙_}
@@ -12,10 +12,10 @@ join-requires c κs = c .before .before .pre (c .if1 .taken)
 returns : tie.Need-returns
 returns c =
     let start = c .before .before .before .args in
-    count-joined (start .word) (start .s .from) (start .s .to) _ (c .join .ensures) ∙ some-told (tally (start .word) []) (start .s) (c .before .if1 .taken)
+    count-joined (start .score) (start .s .from) (start .s .to) _ (c .join .ensures) ∙ some-told (tally (start .score) []) (start .s) (c .before .if1 .taken)
 
 returns-2 : tie.Need-returns-2
-returns-2 c = none-told (tally (c .before .before .args .word) []) (c .before .before .args .s) (c .if1 .left)
+returns-2 c = none-told (tally (c .before .before .args .score) []) (c .before .before .args .s) (c .if1 .left)
 
 pub join-some-spec : {M : Type 1} → statement M
 join-some-spec = tie.close (tie.spec join-requires returns returns-2)

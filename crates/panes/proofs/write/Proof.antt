@@ -1,6 +1,6 @@
 -- `panes::write` meets its contract: the pair's place lies behind those of the runs so far, and there is room for it.
--- A run that is lengthened is there, since the word of no runs has a number behind it that no square has.
-use Rattle.panes.proofs.Shapes.{last-place, next-places, told-lengthened, told-begun}
+-- A run that is lengthened is there, since the score of no runs has a number behind it that no square has.
+use Rattle.panes.proofs.TakingUp.{last-place, next-places, told-lengthened, told-begun}
 use native.Mathlib.Omega.{arith}
 use lib.ListN.{length-set}
 use borrow.Author.Needs.{needs}

@@ -1,6 +1,6 @@
 -- `panes::write_leaf` meets its contract: the line up and the line down, one after the other, are what is seen of the pane.
 -- Room for all pairs is room for those of each line.
-use Rattle.panes.proofs.Shapes.{up-joins, up-holds, down-joins, down-holds, down-told}
+use Rattle.panes.proofs.Leaves.{up-joins, up-holds, down-joins, down-holds, down-told}
 use borrow.Author.Needs.{needs}
 use Rattle.panes.proofs.write_leaf.Statement.{statement}
 use Rattle.panes.proofs.write_leaf.Tie as tie

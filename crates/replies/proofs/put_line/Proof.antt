@@ -4,7 +4,7 @@ use native.Mathlib.Omega.{arith}
 use lib.ListN.{length-set}
 use Rattle.replies.specs.Text.{text}
 use Rattle.words.proofs.Decimals.{ten-digits}
-use Rattle.replies.proofs.Writing.{writes-byte, writes-both, number-near}
+use Rattle.replies.proofs.Writing.{writes-byte, writes-both, number-short}
 use Rattle.replies.proofs.put_line.Statement.{statement}
 use Rattle.replies.proofs.put_line.Tie as tie
 
@@ -18,7 +18,7 @@ put-body-requires : tie.Need-put-body-requires
 put-body-requires c κs =
     let numbered = c .before .before .before in
     let start = numbered .before .before .before in
-    let near = number-near (start .fits .line .fits) (numbered .put-number .ensures) in
+    let short = number-short (start .fits .line .fits) (numbered .put-number .ensures) in
     omega (arith, start .pre, numbered .put-number .kept .0)
 
 slice-write-out : tie.Need-slice-write-out
@@ -26,14 +26,14 @@ slice-write-out c =
     let said = c .before .before in
     let numbered = said .before .before .before .before in
     let start = numbered .before .before .before in
-    let near = number-near (start .fits .line .fits) (numbered .put-number .ensures) in
+    let short = number-short (start .fits .line .fits) (numbered .put-number .ensures) in
     omega (arith, start .pre, numbered .put-number .kept .0, said .put-body .kept .0)
 
 add-result : tie.Need-add-result
 add-result c =
     let numbered = c .before .before .before .before .before .before in
     let start = numbered .before .before .before in
-    let near = number-near (start .fits .line .fits) (numbered .put-number .ensures) in
+    let short = number-short (start .fits .line .fits) (numbered .put-number .ensures) in
     omega (arith, start .pre)
 
 same-length : tie.Need-same-length
@@ -48,7 +48,7 @@ returns c =
     let said = c .before .before in
     let numbered = said .before .before .before .before in
     let start = numbered .before .before .before in
-    let near = number-near (start .fits .line .fits) (numbered .put-number .ensures) in
+    let short = number-short (start .fits .line .fits) (numbered .put-number .ensures) in
     let newline = writes-byte (said .put-body .last .0) (said .put-body .result) 10 in
     (writes-both (numbered .put-number .ensures) (writes-both (said .put-body .ensures .0) newline), omega arith)
 

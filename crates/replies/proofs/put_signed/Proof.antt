@@ -7,7 +7,7 @@ use lib.Signed.{ltZ}
 use Rattle.terms.specs.Terms.{distance-of}
 use Rattle.terms.proofs.Signs.{kept}
 use Rattle.words.proofs.Decimals.{ten-digits}
-use Rattle.replies.proofs.Writing.{writes-as, writes-both, number-near, minus-spaced, plain-spaced}
+use Rattle.replies.proofs.Writing.{writes-as, writes-both, number-short, minus-spaced, plain-spaced}
 use Rattle.replies.proofs.put_signed.Statement.{statement}
 use Rattle.replies.proofs.put_signed.Tie as tie
 
@@ -27,7 +27,7 @@ returns c =
     let test = sign .before .before .before in
     let start = test .before .before in
     let z-is = kept (start .fits .z) in
-    let near = number-near (far .distance .ok) (digits .put-number .ensures) in
+    let short = number-short (far .distance .ok) (digits .put-number .ensures) in
     let behind = sign .put-bytes .ensures .behind in (
       writes-as
           (minus-spaced (start .args .z) (ap (λ (z : ℤ). ltZ z (pos 0)) (sym z-is) ∙ test .if1 .taken)
@@ -43,7 +43,7 @@ returns-2 c =
     let test = far .before .before in
     let start = test .before .before in
     let z-is = kept (start .fits .z) in
-    let near = spaced .put-spaced .ensures .1 in (
+    let short = spaced .put-spaced .ensures .1 in (
       writes-as
           (plain-spaced (start .args .z) (ap (λ (z : ℤ). ltZ z (pos 0)) (sym z-is) ∙ test .if1 .left)
           (far .distance2 .ensures ∙ ap (λ (z : ℤ). distance-of (z -ℤ pos 0)) z-is))

@@ -4,7 +4,7 @@ use mathlib.Core.Path.{_∙_}
 use native.Mathlib.Omega.{arith}
 use lib.ListN.{length-set}
 use Rattle.words.proofs.Decimals.{ten-digits}
-use Rattle.replies.proofs.Writing.{writes-byte, writes-both, number-near}
+use Rattle.replies.proofs.Writing.{writes-byte, writes-both, number-short}
 use Rattle.replies.proofs.put_spaced.Statement.{statement}
 use Rattle.replies.proofs.put_spaced.Tie as tie
 
@@ -31,7 +31,7 @@ returns : tie.Need-returns
 returns c =
     let numbered = c .before .before in
     let start = numbered .before .before .before in
-    let near = number-near (start .fits .n .fits) (numbered .put-number .ensures) in
+    let short = number-short (start .fits .n .fits) (numbered .put-number .ensures) in
     (writes-both (writes-byte (start .args .out .now) (start .args .at) 32) (numbered .put-number .ensures), omega arith)
 
 pub put-spaced-spec : {M : Type 1} → statement M

@@ -2,9 +2,9 @@
 use borrow.Author.Needs.{needs}
 use Prim.Native.Nat.{_*_}
 use Rattle.leaves.proofs.Entries.{squares-fit}
-use Rattle.tables.proofs.Whole.{block-fits}
+use Rattle.tables.proofs.Admitted.{block-fits}
 use Rattle.tables.specs.Tables.{judged, due-by}
-use Rattle.tables.proofs.Judged.{Verdict, verdict-is, right-is, wrong-is}
+use Rattle.tables.proofs.FirstWrong.{Verdict, verdict-is, right-is, wrong-is}
 use Rattle.tables.proofs.check_fitting.Statement.{statement}
 use Rattle.tables.proofs.check_fitting.Tie as tie
 

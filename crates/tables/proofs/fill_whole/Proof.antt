@@ -4,11 +4,11 @@ use mathlib.Core.List.{[], _∷_}
 use mathlib.Core.Path.{_≡_, sym, ap, _∙_}
 use lib.ListN.{length}
 use Rattle.terms.specs.Terms.{answered}
-use Rattle.terms.proofs.Laws.{limits}
+use Rattle.terms.proofs.Limits.{limits}
 use Rattle.division.specs.Division.{whole, blocks}
 use Rattle.leaves.specs.Walk.{filled-with}
 use Rattle.tables.specs.Tables.{fill}
-use Rattle.tables.proofs.Whole.{admission-refused, admission-granted, taken, kept, given, whole-fits, block-fits}
+use Rattle.tables.proofs.Admitted.{table-refused, table-granted, taken, kept, given, whole-fits, block-fits}
 use Rattle.tables.proofs.PlaceByPlace.{due-table}
 use Rattle.tables.proofs.fill_whole.Statement.{statement}
 use Rattle.tables.proofs.fill_whole.Tie as tie
@@ -17,7 +17,7 @@ fill-block-requires : tie.Need-fill-block-requires
 fill-block-requires c κs =
     let told = c .before .before in
     let start = told .before .before .before .before in
-    let fits = admission-granted (start .args .area .w) (start .args .area .h) _ (sym (told .enum-told .given .1) ∙ told .before .before .admit .ensures) in
+    let fits = table-granted (start .args .area .w) (start .args .area .h) _ (sym (told .before .before .admit .ensures) ∙ told .enum-told .given .1) in
     block-fits (start .args .area .w) (start .args .area .h) (start .args .table .now) (whole-fits _ _ _ (fits .0) (fits .1)) _ (c .whole-block .ensures)
 
 returns : tie.Need-returns
@@ -27,7 +27,9 @@ returns c =
     let judged = refused .before .before in
     let r = refused .r .given .0 .0 in
     let start = judged .before .before in
-    let is = admission-refused (start .args .area .w) (start .args .area .h) _ 1 _ r (sym (refused .r .given .1) ∙ judged .admit .ensures) in
+    let w = start .args .area .w in
+    let h = start .args .area .h in
+    let is = table-refused w h (start .args .table .now) 1 (length (blocks (whole w h)) ∷ []) r (sym (judged .admit .ensures) ∙ refused .r .given .1) in
     (is, kept r 1 _ _ is)
 
 returns-2 : tie.Need-returns-2
@@ -41,10 +43,10 @@ returns-2 c =
     let h = start .args .area .h in
     let t = start .args .table .now in
     let kind = start .args .by-square in
-    let fits = admission-granted w h _ (sym (told .enum-told .given .1) ∙ told .before .before .admit .ensures) in
+    let fits = table-granted w h _ (sym (told .before .before .admit .ensures) ∙ told .enum-told .given .1) in
     let all = limits w h (fits .0) in
     let whole-is = block .whole-block .ensures in
-    let is : fill w h t ≡ answered (length (blocks (whole w h)) ∷ []) = taken w h t 1 _ (fits .0) (fits .1) in (
+    let is : fill w h t ≡ answered (length (blocks (whole w h)) ∷ []) = taken w h t 1 (length (blocks (whole w h)) ∷ []) (fits .0) (fits .1) in (
       ap (λ n. answered (n ∷ [])) (filled .fill-block .ensures .1 ∙ ap (λ k. length (blocks k)) whole-is) ∙ sym is,
       filled .fill-block .ensures .0
           ∙ ap (λ k. filled-with kind w t k 0) whole-is

@@ -1,0 +1,5 @@
+pub mod Boundary
+pub mod Handling
+pub mod Calls
+pub mod Caller
+pub mod Worked

@@ -1,0 +1,2 @@
+pub mod FieldEnds
+pub mod Sequence

@@ -1,0 +1,80 @@
+-- A call on the table of a whole area: what its guards come to, and that refusal 9 never arises.
+use mathlib.Core.Bool.{Bool, true, false, not}
+use mathlib.Core.List.{List, [], _∷_}
+use mathlib.Core.Path.{_≡_, refl, sym, ap, subst⁻¹, _∙_}
+use Prim.Native.Nat.{ℕ, _+_, _*_}
+use native.Mathlib.Omega.{arith}
+use borrow.Author.Tests.{eq-eqb, ne-eqb, eqb-true, le-ltb}
+use lib.Dec.{ltb, eqb, lit<}
+use lib.ListN.{length}
+use Rattle.terms.specs.declared.Refusal.{Refusal}
+use Rattle.terms.specs.declared.Refusal.the-variants.{TableLength}
+use Rattle.terms.specs.declared.Admission.{Admission}
+use Rattle.terms.specs.declared.Admission.the-variants.{Granted, Refused}
+use Rattle.terms.specs.Terms.{accepted, Figures, answered, refused}
+use Rattle.terms.specs.Guards.{_else_, admitted, guarded, then-guard, area-guards}
+use Rattle.terms.proofs.Limits.{limits, area-passed, both-accepted}
+use Rattle.terms.proofs.Guards.{_and_, passed, answered-so, refused-first, next, untried}
+use Rattle.terms.proofs.Refusals.{refusal-some}
+use Rattle.division.specs.Division.{Block, whole, curve, blocks-holding, count}
+use Rattle.division.proofs.Blocks.{whole-inside, at-most-54}
+use Rattle.leaves.specs.Walk as Walks
+use Rattle.tables.specs.Tables.{some-deep, table-guards, unless-refused}
+
+none-counted : {X : Type 0} (f : X → Bool) (zs : List X) → ((z : X) → f z ≡ false) → count f zs ≡ 0
+unfolding count
+none-counted f [] h = refl
+none-counted f (z ∷ zs) h = rw (h z) (ap (λ n. 0 + n) (none-counted f zs h))
+
+-- no accepted area has a square that over 64 blocks hold
+pub not-deep : (w h : ℕ) → accepted w h ≡ true → some-deep w h ≡ false
+unfolding some-deep
+not-deep w h ok =
+    let all = limits w h ok in
+    let none : count (λ s. ltb 64 (blocks-holding (whole w h) s)) (curve (whole w h)) ≡ 0 =
+    none-counted (λ s. ltb 64 (blocks-holding (whole w h) s)) (curve (whole w h))
+    (λ s. le-ltb 64 (blocks-holding (whole w h) s)
+    (let few = at-most-54 w h (all .w-least) (all .w-most) (all .h-least) (all .h-most) s in omega arith)) in
+    rw none
+
+-- what a call on a table is answered, refused by its guards or granted
+module _ (w h : ℕ) (t : List ℕ) (n : ℕ) (values : List ℕ) where
+  pub table-refused : (r : Refusal) → admitted (table-guards w h (length t)) ≡ Refused r → refused r n ≡ guarded (table-guards w h (length t)) n values
+  table-refused r e = refused-first 4 (table-guards w h (length t)) n values refl r e
+
+  pub taken : accepted w h ≡ true → length t ≡ w * h → guarded (table-guards w h (length t)) n values ≡ answered values
+  taken ok size =
+      let tests = area-passed w h ok in
+      answered-so (table-guards w h (length t)) n values (tests .0 and tests .1 and eq-eqb (length t) (w * h) size and ap not (not-deep w h ok))
+
+-- a table that is granted: its area is accepted, and it has w·h places
+pub table-granted : (w h places : ℕ) → admitted (table-guards w h places) ≡ Granted → (accepted w h ≡ true) × (places ≡ w * h)
+table-granted w h places e =
+    let tests = passed (table-guards w h places) e in
+    (both-accepted w h (tests .0) (tests .1 .0), eqb-true places (w * h) (tests .1 .1 .0))
+
+-- the guards as the code tries them: 9 holds where the others pass
+pub tried : (w h places : ℕ) {told : Bool} {j k : Admission} → j ≡ admitted (area-guards w h) → k ≡ then-guard j (told else TableLength)
+    → told ≡ eqb places (w * h) → k ≡ admitted (table-guards w h places)
+tried w h places in-limits step is =
+    untried (table-guards w h places) 3 (lit< tt) (next (table-guards w h places) 2 (lit< tt) in-limits step (λ p. is))
+    (λ p. ap not (not-deep w h (both-accepted w h (p .0) (p .1 .0))))
+
+-- a refused table is kept, and one that is answered is filled
+pub kept : (r : Refusal) (n : ℕ) {f : Figures} (filled t : List ℕ) → refused r n ≡ f → t ≡ unless-refused f filled t
+unfolding unless-refused
+kept r n filled t e = rw (ne-eqb _ 0 (λ z. refusal-some r (ap (λ g. g .refusal) e ∙ z)))
+
+pub given : (values : List ℕ) {f : Figures} (filled t : List ℕ) → f ≡ answered values → filled ≡ unless-refused f filled t
+unfolding unless-refused
+given values filled t e = rw (eq-eqb _ 0 (ap (λ g. g .refusal) e))
+
+-- the whole area is then a block that a walk can take
+pub whole-fits : (w h : ℕ) (t : List ℕ) → accepted w h ≡ true → length t ≡ w * h → Walks.Fits w h t (whole w h) 0
+unfolding whole
+whole-fits w h t ok size =
+    let all = limits w h ok in
+    record { w-limit = all .w-most; h-limit = all .h-most; inside = whole-inside w h (all .w-least) (all .h-least); size = size; room = omega arith }
+
+pub block-fits : (w h : ℕ) (t : List ℕ) → Walks.Fits w h t (whole w h) 0 → (k : Block) → k ≡ whole w h → Walks.Fits w h t k 0
+block-fits w h t fits k is = subst⁻¹ (λ (k : Block). Walks.Fits w h t k 0) is fits

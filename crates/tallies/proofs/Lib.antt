@@ -1,0 +1,2 @@
+pub mod PartByPart
+pub mod Uncut
