@@ -11,19 +11,22 @@ use Rattle.terms.specs.declared.Area.{Area}
 use Rattle.terms.specs.declared.Refusal.{Refusal}
 use Rattle.terms.specs.declared.Refusal.the-variants.{OriginLimit}
 use Rattle.terms.specs.Terms.{accepted, grid-accepted, answered, signed, in-signs, origin-accepted, at-post}
-use Rattle.terms.proofs.Meanings.{Lengths-within, Lengths-beyond, Squares-beyond, Origin-within, Origin-beyond, origin-mean, origin-exactly}
+use Rattle.terms.proofs.Limits.{both-accepted}
+use Rattle.terms.proofs.Meanings.{Lengths-within, Lengths-beyond, Squares-beyond, Origin-within, Origin-beyond, origin-mean}
+use Rattle.terms.proofs.Meanings.{lengths-exactly, squares-exactly, origin-exactly}
 use Rattle.division.specs.Division.{whole, square-of}
 use Rattle.curve.specs.Lookups.{number-to-square-at, square-to-number-at, finish-square-at}
 use Rattle.curve.proofs.Demands.{found, number-asked, square-asked}
 use Rattle.curve.proofs.Moved.{finish-at-post}
-use Rattle.curve.proofs.Refused.{finish-refused-1, finish-refused-13}
+use Rattle.curve.proofs.Refused.{finish-refused-1, finish-refused-13, finish-answered}
 use Rattle.lines.specs.declared.Request as Requests
 use Rattle.lines.specs.Lines.{AREA, ORIGIN, N, S, request, Spelt, Spelt-signed, Says-one, Says-two}
 use Rattle.lines.proofs.Asking.{number-spelt, area-spelt, origin-spelt, square-spelt}
 use Rattle.clerk.specs.declared.Clerk.{Clerk}
 use Rattle.clerk.specs.declared.Clerk.the-variants.{NoArea, InForce}
+use Rattle.clerk.specs.declared.Reply as Replies
 use Rattle.clerk.specs.Clerk as spec
-use Rattle.clerk.proofs.Handling.{mark, call-refused-exactly}
+use Rattle.clerk.proofs.Handling.{nth-number, mark, call-refused-exactly, call-answered}
 use Rattle.clerk.proofs.InForce.{in-force}
 
 -- "5, 6, 8": a line that is refused for what it says.
@@ -135,3 +138,39 @@ module _ (clerk : Clerk) (w h : ℕ) (line : List ℕ) (says : Says-two Spelt AR
       let law = refused-with 13 (λ z. omega arith) in
       let why = finish-refused-13 (at-post w h) in
       (λ e. why .0 (law .0 e), λ p. law .1 (why .1 p))
+
+-- The fields of a reply are what their names say: the numbers of the call that the line asks for, or its own.
+pub cell-fields : (i : ℕ) (line : List ℕ) → Says-one N i line → (area : Area) → grid-accepted area ≡ true → (x y : ℤ) (k : ℕ)
+    → spec.said (Replies.the-variants.Cell x y k) ≡ spec.reply (InForce area) line → number-to-square-at area i ≡ found x y k
+unfolding spec.reply
+cell-fields i line says area on x y k e =
+    let is = e ∙ ap₂ spec.reply-to (in-force area on) (number-spelt line i says) in
+    let told = call-answered spec.Cell [] (x ∷ y ∷ pos k ∷ []) (number-to-square-at area i) (λ z. omega arith) is in
+    λ j. record { refusal = told .0 j; values = told .1 j }
+
+pub number-fields : (x y : ℤ) (line : List ℕ) → Says-two Spelt-signed S x y line → (area : Area) → grid-accepted area ≡ true → (n k : ℕ)
+    → spec.said (Replies.the-variants.Number n k) ≡ spec.reply (InForce area) line → signed (square-to-number-at area x y) ≡ signed (answered (n ∷ k ∷ []))
+unfolding spec.reply in-signs
+number-fields x y line says area on n k e =
+    let is = e ∙ ap₂ spec.reply-to (in-force area on) (square-spelt x y line says) in
+    let told = call-answered spec.Number [] (pos n ∷ pos k ∷ []) (signed (square-to-number-at area x y)) (λ z. omega arith) is in
+    λ j. record { refusal = told .0 j; values = told .1 j }
+
+pub area-fields : (clerk : Clerk) (w h : ℕ) (line : List ℕ) → Says-two Spelt AREA w h line → (a b squares : ℕ) (x y : ℤ)
+    → spec.said (Replies.the-variants.AreaSet a b squares x y) ≡ spec.reply clerk line
+    → (pos a ∷ pos b ∷ pos squares ∷ x ∷ y ∷ [] ≡ pos w ∷ pos h ∷ pos (w * h) ∷ finish-square-at (at-post w h) .values) × (accepted w h ≡ true)
+area-fields clerk w h line says a b squares x y e =
+    let first = pos w ∷ pos h ∷ pos (w * h) ∷ [] in
+    let is = e ∙ said clerk w h line says in
+    let told = call-answered spec.Area-set first (pos a ∷ pos b ∷ pos squares ∷ x ∷ y ∷ []) (finish-square-at (at-post w h)) (λ z. omega arith) is in
+    let p = finish-answered (at-post w h) .0 (told .0) in
+    (sym (told .1), both-accepted w h (lengths-exactly w h .1 (p .0)) (squares-exactly w h .1 (p .1 .0)))
+
+pub origin-fields : (ox oy : ℤ) (line : List ℕ) → Says-two Spelt-signed ORIGIN ox oy line → (area : Area) → grid-accepted area ≡ true → (a b : ℤ)
+    → spec.said (Replies.the-variants.OriginSet a b) ≡ spec.reply (InForce area) line → (a ≡ ox) × (b ≡ oy)
+origin-fields ox oy line says area on a b e = by (origin-accepted ox oy) (e ∙ origin-said ox oy line says area on)
+  where
+    by : (t : Bool) → spec.says spec.Origin-set (a ∷ b ∷ []) ≡ cond t (spec.says spec.Origin-set (ox ∷ oy ∷ [])) (spec.refuses OriginLimit)
+        → (a ≡ ox) × (b ≡ oy)
+    by true is = (ap (nth-number 0) is, ap (nth-number 1) is)
+    by false is = absurd (omega (arith, ap mark is))

@@ -7,7 +7,7 @@ use Prim.Native.Nat.{ℕ, _*_, _<_}
 use types.Run.{OneOf, miss}
 use denote.Enum.Declared.{tagOf}
 use native.Mathlib.Omega.{arith}
-use borrow.Author.Tests.{ne-eqb}
+use borrow.Author.Tests.{ne-eqb, eqb-true}
 use lib.Dec.{eqb}
 use lib.IntN.{ℤ, pos, natAbs}
 use lib.ListN.{getD}
@@ -50,6 +50,17 @@ call-refused-exactly word first f other n some = (to (eqb (f .refusal) 0), λ e.
         → f .refusal ≡ n
     to true e = absurd (other (ap mark e))
     to false e = ap (λ s. natAbs (nth-number 0 s)) e
+
+-- and a call's reply with a word says that word's numbers exactly if the call is answered with them
+pub call-answered : (word : spec.Word) (first numbers : List ℤ) (f : SignedFigures) → (word-mark word ≡ 3 → ⊥)
+    → spec.says word numbers ≡ spec.from-call word first f → (f .refusal ≡ 0) × (first ++ f .values ≡ numbers)
+call-answered word first numbers f other = by (eqb (f .refusal) 0) refl
+  where
+    by : (t : Bool) → eqb (f .refusal) 0 ≡ t
+        → spec.says word numbers ≡ cond t (spec.says word (first ++ f .values)) (spec.says spec.Refused (pos (f .refusal) ∷ []))
+        → (f .refusal ≡ 0) × (first ++ f .values ≡ numbers)
+    by true is e = (eqb-true (f .refusal) 0 is, ap (λ s. s .numbers) (sym e))
+    by false is e = absurd (other (ap mark e))
 
 -- a finish square is found under an accepted area, whose squares are a 32-bit number
 pub found-fits : (w h : ℕ) (x y : ℤ) → finish-found-at x y ≡ finish-square-at (at-post w h) → w * h < past-32-bits

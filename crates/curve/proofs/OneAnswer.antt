@@ -1,15 +1,24 @@
--- Two answers that meet a promise are one: an answer can be told from its figures.
+-- Two answers that meet a promise are one: an answer can be told from its figures. And the fields of an answer are what their names say.
 use mathlib.Core.Bool.{cond}
-use mathlib.Core.Path.{_≡_, refl, ap}
+use mathlib.Core.Path.{_≡_, refl, sym, ap, _∙_}
+use Prim.Native.Nat.{ℕ, _-_, _*_}
 use lib.Dec.{eqb}
+use lib.IntN.{ℤ, pos, _+ℤ_}
 use lib.Signed.{mag}
+use Rattle.terms.specs.declared.Area.{Area}
 use Rattle.terms.specs.Terms.{Figures, SignedFigures}
 use Rattle.terms.proofs.Refusals.{named, named-back, refusal-not-0, figure, signed-figure}
+use Rattle.terms.proofs.Limits.{all-accepted}
+use Rattle.terms.proofs.Meanings.{lengths-exactly, squares-exactly, origin-exactly}
 use Rattle.terms.proofs.OneAnswer.{by-figures}
+use Rattle.division.specs.Division.{square-of}
 use Rattle.curve.specs.declared.SquareAnswer as SquareAnswers
 use Rattle.curve.specs.declared.NumberAnswer as NumberAnswers
 use Rattle.curve.specs.declared.FinishAnswer as FinishAnswers
-use Rattle.curve.specs.Lookups.{square-figures, number-figures, finish-figures}
+use Rattle.curve.specs.Lookups.{all, number-to-square-at, square-to-number-at, finish-square-at, square-figures, number-figures, finish-figures}
+use Rattle.curve.proofs.Finish as Finish
+use Rattle.curve.proofs.Demands.{Number-answered, number-asked, Square-answered, square-asked}
+use Rattle.curve.proofs.Refused.{finish-answered}
 
 square-from : SignedFigures → SquareAnswers.SquareAnswer
 square-from f =
@@ -48,3 +57,24 @@ finish-told (FinishAnswers.the-variants.Refused r) = rw (refusal-not-0 r) (ap Fi
 
 pub finish-one : (r s : FinishAnswers.FinishAnswer) {f : SignedFigures} → finish-figures r ≡ f → finish-figures s ≡ f → r ≡ s
 finish-one = by-figures finish-figures finish-from finish-told
+
+-- x and y are those of the number's square, moved by the origin, and blocks counts the blocks that hold it; the number is the square's, and so on.
+module _ (area : Area) where
+  pub square-fields : (n : ℕ) (x y : ℤ) (k : ℕ) → square-figures (SquareAnswers.the-variants.Found x y k) ≡ number-to-square-at area n
+      → Number-answered area n x y k
+  square-fields n x y k e = number-asked area n x y k (sym e)
+
+  pub number-fields : (x y : ℤ) (n k : ℕ) → number-figures (NumberAnswers.the-variants.Found n k) ≡ square-to-number-at area x y
+      → Square-answered area x y n k
+  number-fields x y n k e = square-asked area x y n k (sym e)
+
+  pub finish-fields : (x y : ℤ) → finish-figures (FinishAnswers.the-variants.Found x y) ≡ finish-square-at area →
+      let s = square-of (all area) (area .w * area .h - 1) in
+      (x ≡ area .ox +ℤ pos (s .x)) × (y ≡ area .oy +ℤ pos (s .y))
+  finish-fields x y e =
+      let p = finish-answered area .0 (ap (λ f. f .refusal) (sym e)) in
+      let long = lengths-exactly (area .w) (area .h) .1 (p .0) in
+      let few = squares-exactly (area .w) (area .h) .1 (p .1 .0) in
+      let near = origin-exactly (area .ox) (area .oy) .1 (p .1 .1) in
+      let is = e ∙ Finish.finish-answered area (all-accepted area long few near) in
+      (ap (signed-figure 0) is, ap (signed-figure 1) is)

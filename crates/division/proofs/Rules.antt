@@ -1,16 +1,17 @@
 -- The rules of the division as laws, with no bound on how deep the cuts go: what the curve and the blocks of a block are, from those of its parts.
 -- A sized block has both lengths at least 1. By induction over the depth: with each cut the sum of the lengths falls, so that deeper changes nothing.
-use mathlib.Core.Bool.{Bool, true, false, _&&_, cond}
+use mathlib.Core.Bool.{Bool, true, false, _&&_, cond, and-false}
 use mathlib.Core.List.{List, [], _∷_, map, flatten}
+use mathlib.Core.Logic.{_⊎_, inl, inr}
 use mathlib.Core.Path.{_≡_, refl, ap, ap₂, subst⁻¹}
 use Prim.Native.Nat.{ℕ, zero, suc, _+_, _-_, _*_, _/_, _%_, _≤_, _<_}
 use native.Mathlib.Nat.{le-refl, mul-assoc, mul-comm, mul-le-mul}
 use native.Mathlib.Omega.{arith}
-use borrow.Author.Tests.{ltb-true, ltb-false, eqb-true, eqb-false}
+use borrow.Author.Tests.{lt-ltb, le-ltb, ltb-true, ltb-false, eqb-true, eqb-false}
 use lib.Dec.{ltb, eqb}
 use Rattle.division.specs.declared.Choice.{Choice}
 use Rattle.division.specs.declared.Choice.the-variants.{StraightRun, StraightSide, LongCut, UCut}
-use Rattle.division.specs.Division.{Block, choice, even-half, part, parts, parts-of, curve-by, down, curve, blocks}
+use Rattle.division.specs.Division.{Block, moved, against, choice, even-half, part, parts, parts-of, curve-by, down, curve, blocks}
 use Rattle.division.specs.Division.Inside.{Sized}
 
 -- P of each of a list
@@ -144,3 +145,35 @@ curve-rule k h = rule-by (λ j curves. curve-by (choice (j .a) (j .b)) j curves)
 pub blocks-rule : (k : Block) → Sized k → blocks k ≡ k ∷ flatten (map blocks (parts k))
 unfolding blocks
 blocks-rule k h = rule-by (λ j below. j ∷ flatten below) (k .a + k .b) k h refl
+
+-- "Long cut, two parts in this order" and "U cut, three parts in this order", of every block, with the even half in numbers: L div 2, and one more exactly if
+-- L > 2 and L div 2 is odd; m is a div 2, of any length.
+pub half-in-numbers : (L : ℕ) → (2 < L → L / 2 % 2 ≡ 1 → even-half L ≡ L / 2 + 1) × ((L ≤ 2) ⊎ (L / 2 % 2 ≡ 0) → even-half L ≡ L / 2)
+unfolding even-half
+half-in-numbers L = (λ more odd. rw (lt-ltb 2 L more, odd) refl, elim [ inl few ↦ rw (le-ltb 2 L few) refl | inr even ↦ rw (even, and-false (ltb 2 L)) refl ])
+
+pub long-parts : (k : Block) → choice (k .a) (k .b) ≡ LongCut →
+    let e = even-half (k .a) in
+    parts k
+    ≡ record { start = k .start; run = k .run; a = e; side = k .side; b = k .b }
+    ∷ record { start = moved (k .run) e (k .start); run = k .run; a = k .a - e; side = k .side; b = k .b }
+    ∷ []
+unfolding parts parts-of part
+long-parts k is = ap (λ c. map (λ p. part p k) (parts-of c)) is
+
+pub u-parts : (k : Block) → choice (k .a) (k .b) ≡ UCut →
+    let e = even-half (k .b) in
+    let m = k .a / 2 in
+    parts k
+    ≡ record { start = k .start; run = k .side; a = e; side = k .run; b = m }
+    ∷ record { start = moved (k .side) e (k .start); run = k .run; a = k .a; side = k .side; b = k .b - e }
+    ∷ record {
+      start = moved (k .side) (e - 1) (moved (k .run) (k .a - 1) (k .start));
+      run = against (k .side);
+      a = e;
+      side = against (k .run);
+      b = k .a - m;
+    }
+    ∷ []
+unfolding parts parts-of part
+u-parts k is = ap (λ c. map (λ p. part p k) (parts-of c)) is

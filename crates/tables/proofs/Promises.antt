@@ -198,6 +198,23 @@ module _ (w h : ℕ) (kind : Bool) (t : List ℕ) where
       let met = judged-met 0 (due-by kind w h) t place value size told in
       subst⁻¹ (λ (p : ℕ). First (due-by kind w h) t p value) (met .1 ∙ zero-add (met .0)) (met .2)
 
+-- The fields of an answer are what their names say: of a fill all blocks of the division, of a check the first wrong place and the value due there.
+module _ (area : Area) (t : List ℕ) where
+  pub filled-fields : (n : ℕ) → fill-figures (FillAnswers.the-variants.Filled n) ≡ fill-at area t → n ≡ length (blocks (whole (area .w) (area .h)))
+  filled-fields n e = all-blocks-reported (area .w) (area .h) t n (sym e)
+
+  pub right-fields : (kind : Bool) → check-figures CheckAnswers.the-variants.Right ≡ check-at area (due-by kind) t → t ≡ due-by kind (area .w) (area .h)
+  unfolding check
+  right-fields kind e =
+      let w = area .w in
+      let h = area .h in
+      let was = asked-so w h t 3 (judged 0 (due-by kind w h) t) (ap (λ f. f .refusal) (sym e)) in
+      right-then-filled w h (was .0) kind t (was .1) (sym e)
+
+  pub wrong-fields : (kind : Bool) (place due : ℕ) → check-figures (CheckAnswers.the-variants.Wrong place due) ≡ check-at area (due-by kind) t
+      → First (due-by kind (area .w) (area .h)) t place due
+  wrong-fields kind place due e = first-wrong-place (area .w) (area .h) kind t place due (sym e)
+
 -- Two answers that meet a promise are one, and so are the tables that two fills leave.
 fill-from : Figures → FillAnswers.FillAnswer
 fill-from f = cond (eqb (f .refusal) 0) (FillAnswers.the-variants.Filled (figure 0 f)) (FillAnswers.the-variants.Refused (named (f .refusal)))
