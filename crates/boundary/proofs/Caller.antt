@@ -1,28 +1,26 @@
 -- What the line call returns and hands back: the refusal's number or 0, and four numbers that give the clerk that the line left. So a caller from C that
 -- hands them on reads the clerk's own replies to lines in order.
-use mathlib.Core.Bool.{Bool, true, false}
 use mathlib.Core.List.{List, [], _∷_, _++_, map}
-use mathlib.Core.Path.{_≡_, refl, sym, ap, ap₂, subst, _∙_}
+use mathlib.Core.Path.{_≡_, refl, sym, ap, ap₂, _∙_}
 use Prim.Native.Nat.{ℕ, _+_, _≤_}
 use native.Mathlib.Omega.{arith}
 use borrow.Author.Tests.{le-leb}
 use lib.IntN.{ℤ, pos}
-use lib.ListN.{length, drop, replicate, length-append, length-drop}
+use lib.ListN.{length, drop, replicate}
 use Rattle.terms.specs.declared.Area.{Area}
 use Rattle.terms.specs.declared.Refusal.{Refusal}
-use Rattle.terms.specs.Terms.{accepted, refusal-number, at-post}
+use Rattle.terms.specs.Terms.{accepted, refusal-number}
 use Rattle.terms.proofs.Refusals.{refusal-not-0}
 use Rattle.clerk.specs.declared.Clerk.{Clerk}
 use Rattle.clerk.specs.declared.Clerk.the-variants.{NoArea, InForce}
 use Rattle.clerk.specs.declared.Handled.{Handled}
 use Rattle.clerk.specs.declared.Reply.{Reply}
 use Rattle.clerk.specs.declared.Reply.the-variants.{AreaSet, OriginSet, Cell, Number, Refused}
-use Rattle.clerk.specs.Clerk.{Word, Said, said, refuses, clerk-under, counted, after, reply}
+use Rattle.clerk.specs.Clerk.{Word, said, refuses, clerk-under, counted, after, reply}
 use Rattle.clerk.specs.Clerk as words
 use Rattle.clerk.proofs.InForce.{left-counts}
 use Rattle.clerk.proofs.Areas.{set-in-force}
-use Rattle.boundary.specs.Boundary.{area-at}
-use Rattle.boundary.specs.Handling.{area-of, shown, refusal-said, state, handled-figures, handled-by}
+use Rattle.boundary.specs.Handling.{area-of, refusal-said, handled-figures, handled-by}
 use Rattle.boundary.specs.Calls.{Outcome}
 use Rattle.boundary.specs.Caller.{area-kept, line-from, got, read-off, replies, Handles, no-lines, one-more}
 

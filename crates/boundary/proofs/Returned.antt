@@ -1,6 +1,6 @@
 -- What each call from C returns and leaves, in the header's words, for every argument and for slices of any length: 255 and nothing written where the slice for
 -- the values is too short; else the refusal's number, or 0, the values in the first places, and the rest as it was.
-use mathlib.Core.Bool.{Bool, true, false}
+use mathlib.Core.Bool.{true, false}
 use mathlib.Core.List.{List, [], _∷_, _++_}
 use mathlib.Core.Path.{_≡_, refl}
 use Prim.Native.Nat.{ℕ, _≤_, _<_}

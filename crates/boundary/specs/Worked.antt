@@ -112,8 +112,11 @@ worked =
     ∷ fills-by-square 2 2 (nines 4) (nines 1) (due 0 (4 ∷ [])) (0 ∷ 3 ∷ 1 ∷ 2 ∷ [])
     ∷ fills-by-square 0 2 [] (nines 2) (due 1 (0 ∷ 9 ∷ [])) []
     ∷ fills-by-square 2 2 (nines 4) [] (due 255 []) (nines 4)
-    ∷ fills-by-number 3 1 (nines 3) (nines 3) (due 0 (1 ∷ 9 ∷ 9 ∷ [])) (0 ∷ 1 ∷ 2 ∷ [])
-    ∷ checks-by-square 4 2 (0 ∷ 3 ∷ 4 ∷ 7 ∷ 1 ∷ 2 ∷ 5 ∷ 6 ∷ []) (nines 3) (due 0 (0 ∷ 0 ∷ 0 ∷ []))
+    -- 3 by 2, (0, 0) (0, 1) (1, 1) (2, 1) (2, 0) (1, 0)
+    ∷ fills-by-number 3 2 (nines 6) (nines 3) (due 0 (4 ∷ 9 ∷ 9 ∷ [])) (0 ∷ 3 ∷ 4 ∷ 5 ∷ 2 ∷ 1 ∷ [])
+    ∷ fills-by-square 3 2 (nines 6) (nines 3) (due 0 (4 ∷ 9 ∷ 9 ∷ [])) (0 ∷ 5 ∷ 4 ∷ 1 ∷ 2 ∷ 3 ∷ [])
+    ∷ checks-by-number 3 2 (0 ∷ 3 ∷ 4 ∷ 5 ∷ 2 ∷ 1 ∷ []) (nines 3) (due 0 (0 ∷ 0 ∷ 0 ∷ []))
+    ∷ checks-by-square 3 2 (0 ∷ 5 ∷ 4 ∷ 1 ∷ 2 ∷ 3 ∷ []) (nines 3) (due 0 (0 ∷ 0 ∷ 0 ∷ []))
     ∷ checks-by-number 2 2 (0 ∷ 2 ∷ 3 ∷ 1 ∷ []) (nines 4) (due 0 (0 ∷ 0 ∷ 0 ∷ 9 ∷ []))
     ∷ checks-by-number 2 2 (0 ∷ 3 ∷ 1 ∷ 2 ∷ []) (nines 4) (due 0 (1 ∷ 1 ∷ 2 ∷ 9 ∷ []))
     ∷ checks-by-number 2 2 (nines 5) (nines 4) (due 4 (0 ∷ 0 ∷ 0 ∷ 9 ∷ []))

@@ -30,7 +30,7 @@ use Rattle.lines.proofs.Asking.{says-so, area-spelt, origin-spelt}
 use Rattle.clerk.specs.declared.Clerk.{Clerk}
 use Rattle.clerk.specs.declared.Clerk.the-variants.{NoArea, InForce}
 use Rattle.clerk.specs.Clerk as spec
-use Rattle.clerk.proofs.Handling.{nth-number, word-mark, mark, call-refused}
+use Rattle.clerk.proofs.Handling.{nth-number, word-mark, mark}
 use Rattle.clerk.proofs.InForce.{in-force, was-in-force}
 
 -- a reply with another word

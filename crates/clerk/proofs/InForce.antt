@@ -7,7 +7,7 @@ use Prim.Native.Nat.{ℕ}
 use native.Mathlib.Omega.{arith}
 use lib.IntN.{ℤ}
 use Rattle.terms.specs.declared.Area.{Area}
-use Rattle.terms.specs.Terms.{accepted, origin-accepted, at-post, grid-accepted}
+use Rattle.terms.specs.Terms.{origin-accepted, at-post, grid-accepted}
 use Rattle.terms.proofs.Limits.{grid-passed}
 use Rattle.lines.specs.declared.Request.{Request}
 use Rattle.lines.specs.declared.Request as Requests

@@ -16,7 +16,7 @@ use Rattle.division.proofs.EachSquareOnce.{length-curve, square-held}
 use Rattle.division.proofs.Blocks.{whole-inside}
 use Rattle.division.proofs.Coordinates.{spot, Within, spot-inside, whole-within}
 use Rattle.division.proofs.SameLengths.{square-alike, count-alike}
-use Rattle.division.proofs.Places.{getD-map-in}
+use Rattle.division.proofs.PlaceInList.{getD-map-in}
 use Rattle.leaves.specs.Walk.{place, over, enter-one, filled-with}
 use Rattle.leaves.proofs.Entries.{place-below, squares-fit}
 use Rattle.copies.specs.Copies.{image, facing, copied, Agree, Held, Again}

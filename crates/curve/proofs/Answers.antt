@@ -1,6 +1,6 @@
 -- From what a descent or a search asks and finds to a call's figures: the guards that the call passed say that the walk may begin, and what is found is moved
 -- by the area's origin.
-use mathlib.Core.Bool.{Bool, true, _&&_, and-eq-true-iff}
+use mathlib.Core.Bool.{true, _&&_, and-eq-true-iff}
 use mathlib.Core.List.{List, [], _∷_}
 use mathlib.Core.Path.{_≡_, refl, sym, ap, ap₂, subst⁻¹, _∙_}
 use Prim.Native.Nat.{ℕ, _-_, _*_, _≤_, _<_}
@@ -15,7 +15,7 @@ use Rattle.terms.specs.declared.Admission.the-variants.{Granted, Refused}
 use Rattle.terms.specs.declared.Refusal.{Refusal}
 use Rattle.terms.specs.declared.Refusal.the-variants.{TooDeep}
 use Rattle.terms.specs.Terms.{longest-side, most-blocks, accepted, offset-accepted, grid-accepted, distance-of, below}
-use Rattle.terms.specs.Terms.{Figures, SignedFigures, refused, in-signs, signed}
+use Rattle.terms.specs.Terms.{SignedFigures, refused, in-signs, signed}
 use Rattle.terms.specs.Guards.{_else_, admitted, guarded, first}
 use Rattle.terms.proofs.Limits.{Limits, limits, squares-limit, all-accepted, grid-passed}
 use Rattle.terms.proofs.Refusals.{refusal-not-0}

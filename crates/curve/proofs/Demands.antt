@@ -27,7 +27,7 @@ use Rattle.division.proofs.Coordinates.{whole-holds}
 use Rattle.curve.specs.Lookups.{all, moved-by-origin, from-origin, old-square, inside, number-guards, square-guards}
 use Rattle.curve.specs.Lookups.{number-to-square-at, square-to-number-at, finish-square-at}
 use Rattle.curve.proofs.Answers.{few-hold, within}
-use Rattle.curve.proofs.Finish.{finish-found-at, finish-answered}
+use Rattle.curve.proofs.Finish.{finish-found-at, finish-answered-at}
 
 -- The figures of a found square.
 abbrev pub found : (x y : ℤ) (blocks : ℕ) → SignedFigures
@@ -230,5 +230,5 @@ finish-last-at area ok =
       y = area .oy +ℤ pos (s .y);
       blocks = blocks-holding (all area) s;
       asked = number-answered-at area ok (area .w * area .h - 1) (omega arith);
-      finish = finish-answered area ok;
+      finish = finish-answered-at area ok;
     }

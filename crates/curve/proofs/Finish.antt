@@ -223,17 +223,17 @@ module _ (area : Area) (ok : grid-accepted area ≡ true) where
   within-limits : Limits (area .w) (area .h)
   within-limits = limits (area .w) (area .h) (grid-passed area ok .0)
 
-  pub finish-answered : let s = square-of (all area) (area .w * area .h - 1) in
+  pub finish-answered-at : let s = square-of (all area) (area .w * area .h - 1) in
       finish-square-at area ≡ finish-found-at (area .ox +ℤ pos (s .x)) (area .oy +ℤ pos (s .y))
   unfolding finish-square-at from-origin in-signs
-  finish-answered =
+  finish-answered-at =
       let s = square-of (all area) (area .w * area .h - 1) in
       let tests = grid-guards-passed area ok in
       ap (from-origin (area .ox) (area .oy)) (answered-so (finish-guards area) 2 (s .x ∷ s .y ∷ []) (tests .0 and tests .1 and tests .2))
 
   ends-at : (x y : ℕ) → Ends (area .w) (area .h) x y → finish-square-at area ≡ finish-found-at (area .ox +ℤ pos x) (area .oy +ℤ pos y)
   ends-at x y e =
-      finish-answered
+      finish-answered-at
       ∙ ap (λ (s : Square). finish-found-at (area .ox +ℤ pos (s .x)) (area .oy +ℤ pos (s .y)))
       (last-square (area .w) (area .h) x y (within-limits .w-least) (within-limits .h-least) e)
 
@@ -245,7 +245,7 @@ module _ (area : Area) (ok : grid-accepted area ≡ true) where
       let end = ends w h (most .w-least) (most .h-least) in
       let there = ends-at (end .0) (end .1) (end .2) in
       record {
-        last = finish-answered;
+        last = finish-answered-at;
         of-narrow = λ one more. ends-at 0 (h - 1) (up one refl (omega arith));
         of-low = λ three odd two. ends-at (w - 2) 0 (short two three odd (omega arith) refl);
         differs = λ other e.

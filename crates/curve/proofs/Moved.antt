@@ -17,7 +17,7 @@ use Rattle.terms.proofs.Refusals.{signed-figure}
 use Rattle.terms.proofs.Signs.{added-off}
 use Rattle.division.specs.Division.{Square, whole, square-of, number-of, blocks-holding}
 use Rattle.curve.specs.Lookups.{all, few-blocks, square-guards, number-to-square-at, square-to-number-at, finish-square-at}
-use Rattle.curve.proofs.Finish.{finish-found-at, finish-answered}
+use Rattle.curve.proofs.Finish.{finish-found-at, finish-answered-at}
 use Rattle.curve.proofs.Demands.{found, old-is, inside-is, number-asked, number-answered-at}
 
 -- the area at the post
@@ -28,7 +28,7 @@ module _ (w h : ℕ) (ok : accepted w h ≡ true) where
   pub finish-at-post : let s = square-of (whole w h) (w * h - 1) in finish-square-at (at-post w h) ≡ finish-found-at (pos (s .x)) (pos (s .y))
   finish-at-post =
       let s = square-of (whole w h) (w * h - 1) in
-      finish-answered (at-post w h) post-on ∙ ap₂ (λ x y. finish-found-at (pos x) (pos y)) (zero-add (s .x)) (zero-add (s .y))
+      finish-answered-at (at-post w h) post-on ∙ ap₂ (λ x y. finish-found-at (pos x) (pos y)) (zero-add (s .x)) (zero-add (s .y))
 
 -- a natural number that is told as 0 plus it
 unmoved : {a b : ℕ} → pos 0 +ℤ pos a ≡ pos b → a ≡ b
@@ -49,7 +49,7 @@ module _ (area : Area) (ok : grid-accepted area ≡ true) where
       → finish-square-at area ≡ finish-found-at (area .ox +ℤ pos x) (area .oy +ℤ pos y)
   finish-moved x y e =
       let is = sym (finish-at-post (area .w) (area .h) (grid-passed area ok .0)) ∙ e in
-      finish-answered area ok
+      finish-answered-at area ok
       ∙ ap₂ (λ x y. finish-found-at (area .ox +ℤ pos x) (area .oy +ℤ pos y)) (ap (λ f. mag (signed-figure 0 f)) is) (ap (λ f. mag (signed-figure 1 f)) is)
 
   -- "Squares asked": those of the area, and those outside it to the east and the north

@@ -16,7 +16,7 @@ use Rattle.curve.specs.declared.SquareAnswer as SquareAnswers
 use Rattle.curve.specs.declared.NumberAnswer as NumberAnswers
 use Rattle.curve.specs.declared.FinishAnswer as FinishAnswers
 use Rattle.curve.specs.Lookups.{all, number-to-square-at, square-to-number-at, finish-square-at, square-figures, number-figures, finish-figures}
-use Rattle.curve.proofs.Finish as Finish
+use Rattle.curve.proofs.Finish.{finish-answered-at}
 use Rattle.curve.proofs.Demands.{Number-answered, number-asked, Square-answered, square-asked}
 use Rattle.curve.proofs.Refused.{finish-answered}
 
@@ -76,5 +76,5 @@ module _ (area : Area) where
       let long = lengths-exactly (area .w) (area .h) .1 (p .0) in
       let few = squares-exactly (area .w) (area .h) .1 (p .1 .0) in
       let near = origin-exactly (area .ox) (area .oy) .1 (p .1 .1) in
-      let is = e ∙ Finish.finish-answered area (all-accepted area long few near) in
+      let is = e ∙ finish-answered-at area (all-accepted area long few near) in
       (ap (signed-figure 0) is, ap (signed-figure 1) is)

@@ -1,6 +1,5 @@
 -- The wrong programs that the lookups' promises turn away, each where it goes wrong first: in an area of two squares, or of four, at an origin.
 use mathlib.Core.Bool.{true}
-use mathlib.Core.List.{[], _∷_}
 use mathlib.Core.Path.{_≡_, refl, sym, ap, _∙_}
 use Prim.Native.Nat.{ℕ, zero, suc, _*_, _≤_, _<_}
 use native.Mathlib.Omega.{arith}

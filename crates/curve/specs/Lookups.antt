@@ -57,7 +57,7 @@ number-to-square-at area number =
     let s = square-of (all area) number in
     from-origin (area .ox) (area .oy) (guarded (number-guards area number) 3 (s .x ∷ s .y ∷ blocks-holding (all area) s ∷ []))
 
--- "square to number: the number; the same"
+-- "square to number: the number; the same". The order is that of the other lookup, with 2 in the place of 3.
 abbrev pub square-guards : (area : Area) (x y : ℤ) → List Guard
 square-guards area x y =
     lengths-accepted (area .w) (area .h) else AreaLimit

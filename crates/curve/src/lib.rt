@@ -12,7 +12,7 @@ ghost use Prim.Native.Nat.{_-_, _*_, _≤_};
 ghost use lib.Dec.{leb, ltb};
 ghost use lib.IntN.{pos, _+ℤ_};
 ghost use Rattle.terms.specs.declared.Refusal.the-variants.{TooDeep};
-ghost use Rattle.terms.specs.Terms.{longest-side, most-blocks, offset-accepted, accepted, grid-accepted, answered};
+ghost use Rattle.terms.specs.Terms.{longest-side, most-blocks, offset-accepted, accepted, grid-accepted};
 ghost use Rattle.terms.specs.Guards.{_else_, guarded};
 ghost use Rattle.division.specs.Division.{square, whole, square-of};
 ghost use Rattle.curve.specs.Lookups.{from-origin, number-to-square-at, square-to-number-at, finish-square-at};

@@ -17,7 +17,7 @@ use Rattle.division.proofs.Cases.{Cut, Shape, in-run, in-side, cut, sha
 use Rattle.division.proofs.Plane.{one-le, moved-add, moved-none}
 use Rattle.division.proofs.Sums.{total, total-all, total-append, count-joined, length-joined, flatten-append, none-of, all-left, all-right}
 use Rattle.division.proofs.Cuts.{area, areas, inside-parts, holds-parts}
-use Rattle.division.proofs.Places.{place-left, place-right}
+use Rattle.division.proofs.PlaceInList.{place-left, place-right}
 use Rattle.division.proofs.EachSquareOnce.{length-curve, once}
 use Rattle.division.proofs.Blocks.{bounded, holding-rule}
 

@@ -14,7 +14,7 @@ use Rattle.division.proofs.Cases.{induction, Shape, in-run, in-side, cu
 use Rattle.division.proofs.Plane.{turned, room-on, one-and, one-le, min-split, within-none, within-split, within-across, same-within}
 use Rattle.division.proofs.Sums.{total-all, count-joined, length-joined, All-use}
 use Rattle.division.proofs.Cuts.{area, areas, inside-parts, holds-parts}
-use Rattle.division.proofs.Places.{counted, found, unique}
+use Rattle.division.proofs.PlaceInList.{counted, found, unique}
 
 pub row-length : (d : Direction) (n : ℕ) (s : Square) → length (row d n s) ≡ n
 unfolding row

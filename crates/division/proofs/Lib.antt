@@ -4,7 +4,7 @@ pub mod Cases
 pub mod Plane
 pub mod Sums
 pub mod Cuts
-pub mod Places
+pub mod PlaceInList
 pub mod EachSquareOnce
 pub mod Blocks
 pub mod Descent

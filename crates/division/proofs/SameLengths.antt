@@ -21,7 +21,7 @@ use Rattle.division.proofs.Blocks.{blocks-length, whole-inside}
 use Rattle.division.proofs.Descent.{run-square, side-square, straight-holding, number-in, holding-in}
 use Rattle.division.proofs.Coordinates.{spot, Within, spot-whole, spot-held, spot-part, whole-within}
 use Rattle.division.proofs.PartHolding.{Lies, squares-of, squares-in, lies-parts, lies-within, lies-inside, lies-long, lies-u}
-use Rattle.division.proofs.Places.{getD-map-in}
+use Rattle.division.proofs.PlaceInList.{getD-map-in}
 
 -- a block with another's lengths
 abbrev resized : Block → Block → Block

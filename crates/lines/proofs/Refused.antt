@@ -1,6 +1,6 @@
 -- When a line is refused with 8, 6 or 5 for what it says, and when it asks for something: exactly, by its bytes, for every line. "For a line it is 8, 6, 5".
 use mathlib.Core.Bool.{Bool, true, false}
-use mathlib.Core.List.{List, _∷_, _++_}
+use mathlib.Core.List.{List}
 use mathlib.Core.Logic.{_↔_, _⊎_, inl, inr}
 use mathlib.Core.Option.{Option, none, some}
 use mathlib.Core.Path.{_≡_, refl, sym, ap, subst, _∙_}
@@ -15,7 +15,7 @@ use Rattle.terms.specs.declared.Refusal.the-variants.{NotANumber, WrongShape, L
 use Rattle.terms.proofs.Refusals.{refusal-one, refusal-some}
 use Rattle.lines.specs.declared.Request.{Request}
 use Rattle.lines.specs.declared.Request.the-variants.{SetArea, SetOrigin, AskNumber, AskSquare, Refused}
-use Rattle.lines.specs.Lines.{AREA, ORIGIN, N, S, number, signed-number, request, asked, Says-two, Says}
+use Rattle.lines.specs.Lines.{AREA, ORIGIN, S, number, request, asked, Says-two, Says}
 use Rattle.lines.proofs.Spelt.{Way, plain, signed}
 use Rattle.lines.proofs.Shapes.{long-line}
 use Rattle.lines.proofs.Asking.{with-two, Asked-two, Shaped, n-shaped, area-shaped, origin-shaped, s-shaped, shaped-or-refused}

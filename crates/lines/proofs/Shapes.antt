@@ -1,5 +1,5 @@
--- What the fields make of a line. After the word an empty one is refusal 6, and one that is no number 5; fewer than two fields in all, or more than three,
--- are refusal 6.
+-- What the fields make of a line: the request of its shape where each of them is read, and its refusal. After the word an empty field is refusal 6, and one
+-- that is no number 5; fewer than two fields in all, or more than three, are refusal 6.
 use mathlib.Core.Bool.{Bool, true, false, _||_}
 use mathlib.Core.List.{List, [], _∷_}
 use mathlib.Core.Option.{Option}

@@ -6,7 +6,7 @@ ghost use mathlib.Core.Path.{_≡_};
 ghost use Prim.Native.Nat.{_-_, _≤_, _<_, min};
 ghost use Rattle.terms.specs.Terms.{longest-side};
 ghost use Rattle.division.specs.Division.{Part, First, Second, B, C};
-ghost use Rattle.panes.specs.Panes.{pane-at, pane-in, is-whole, tally, runs-in, joined-score, joined, stretched, up-line, down-line, seen};
+ghost use Rattle.panes.specs.Panes.{pane-in, is-whole, tally, runs-in, joined-score, joined, stretched, up-line, down-line, seen};
 ghost use Rattle.panes.specs.Panes.{Walks, Leaf, Holds, Joins, May-join};
 
 // The squares of an a by b block with u from u0 on and below u1, and v from v0 on and below v1.

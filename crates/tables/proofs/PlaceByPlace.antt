@@ -15,7 +15,7 @@ use Rattle.division.specs.Division.{Square, square, whole, curve, square-of, nu
 use Rattle.division.proofs.EachSquareOnce.{length-curve, square-held, square-of-number, number-of-square, number-below}
 use Rattle.division.proofs.Blocks.{whole-inside}
 use Rattle.division.proofs.Coordinates.{Within, whole-holds, whole-within}
-use Rattle.division.proofs.Places.{getD-map-in}
+use Rattle.division.proofs.PlaceInList.{getD-map-in}
 use Rattle.tables.specs.Tables.{places, by-number, by-square, due-by}
 use Rattle.leaves.specs.Walk.{place, over, enter-one, filled-with}
 use Rattle.leaves.proofs.Entries.{enter-length, place-below}

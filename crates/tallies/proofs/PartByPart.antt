@@ -20,7 +20,7 @@ use Rattle.division.proofs.WithinLimits.{Sums-fit, sums-fit}
 use Rattle.panes.specs.declared.Pane.{Pane}
 use Rattle.panes.specs.Panes.{in-pane, pane-in, Tally, tally, no-runs, runs-in, over, seen, Walks, Holds}
 use Rattle.panes.proofs.Stretches.{over-append, Grows, over-grows}
-use Rattle.panes.proofs.Parts.{sized, curve-long, part-seen}
+use Rattle.panes.proofs.PartsSeen.{sized, curve-long, part-seen}
 
 -- what a walk makes of its score
 pub seen-grows : (p : Pane) {n score : ℕ} → Walks p n score → (pairs : List ℕ) → Grows score n (p .a * p .b) (seen p (tally score pairs) n .score)

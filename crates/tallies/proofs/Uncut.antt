@@ -9,7 +9,7 @@ use Rattle.division.specs.Division.{whole, choice}
 use Rattle.division.proofs.Cases.{run-length, side-length, u-lengths}
 use Rattle.panes.specs.declared.Pane.{Pane}
 use Rattle.panes.specs.Panes.{Tally, runs-in, Walks, Opens, Leaf, Holds, Joins}
-use Rattle.panes.proofs.Parts.{sized}
+use Rattle.panes.proofs.PartsSeen.{sized}
 
 -- room for the pairs of two tallies that are one
 pub holds-as : {t u : Tally} → t ≡ u → (l : List ℕ) → Holds (t .score) l → Holds (u .score) l

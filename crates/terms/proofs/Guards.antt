@@ -1,13 +1,13 @@
 -- The law of guards, from both sides: a call is refused with r exactly if the guards before r's pass and r's fails, and answered exactly if all pass. And how
 -- the code gets there, one guard after the other.
-use mathlib.Core.Bool.{Bool, true, false, not, cond, _||_, _&&_}
-use mathlib.Core.List.{List, [], _∷_, _++_}
+use mathlib.Core.Bool.{Bool, true, false, cond, _||_, _&&_}
+use mathlib.Core.List.{List, [], _∷_}
 use mathlib.Core.Logic.{_↔_, _⊎_, inl, inr}
 use mathlib.Core.Path.{_≡_, refl, sym, ap, ap₂, _∙_}
 use Prim.Native.Nat.{ℕ, zero, suc, _<_}
 use native.Mathlib.Omega.{arith}
 use borrow.Author.Tests.{eqb-true, eqb-false}
-use lib.Dec.{T, eqb}
+use lib.Dec.{eqb}
 use lib.ListN.{length}
 use Rattle.terms.specs.declared.Refusal.{Refusal}
 use Rattle.terms.specs.declared.Refusal.the-variants.{AreaLimit}
@@ -15,7 +15,7 @@ use Rattle.terms.specs.declared.Admission.{Admission}
 use Rattle.terms.specs.declared.Admission.the-variants.{Granted, Refused}
 use Rattle.terms.specs.Terms.{refusal-number, Figures, answered, refused, refused-with}
 use Rattle.terms.specs.Guards.{Guard, _else_, admitted, padded, guarded, then-guard, first}
-use Rattle.terms.proofs.Refusals.{refusal-one, refusal-some, refusal-not-0}
+use Rattle.terms.proofs.Refusals.{refusal-one, refusal-some}
 
 -- Facts, one for each guard of a list, as the list itself is written: they are nested pairs.
 infixr 1 _and_

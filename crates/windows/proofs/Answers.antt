@@ -25,10 +25,10 @@ use Rattle.division.specs.Division.{whole, curve, blocks-holding, count}
 use Rattle.division.proofs.Blocks.{at-most-54}
 use Rattle.panes.specs.declared.Pane.{Pane}
 use Rattle.panes.specs.Panes.{pane-at, in-span, in-pane, Tally, tally, no-runs, runs-in, over, seen, runs-of, pairs-into, Walks, Opens}
-use Rattle.panes.proofs.Parts.{curve-long}
+use Rattle.panes.proofs.PartsSeen.{curve-long}
 use Rattle.windows.specs.declared.Window.{Window}
 use Rattle.windows.specs.declared.Corners.{Corners}
-use Rattle.windows.specs.Windows.{in-window, window-runs, some-deep, old-corners, runs-at, uncrossed, corners-inside, window-guards}
+use Rattle.windows.specs.Windows.{in-window, window-runs, some-deep, old-corners, runs-at, corners-inside, window-guards}
 use Rattle.windows.specs.Windows.{runs-for-window-at, written, slice-after-at}
 use Rattle.windows.specs.Within.{old-corners-inside, Lies, within-figures, within-slice}
 use Rattle.windows.proofs.CountedRuns.{counted-runs, written-runs}

@@ -1,6 +1,6 @@
 -- Order 6's sentence on windows: an old window that is moved by the origin is answered as at origin 0 0, a window that lies in its area is such a one, and its
 -- runs are the only ones that cover exactly the numbers whose square, moved, lies between the signed corners.
-use mathlib.Core.Bool.{Bool, true, _&&_, not, cond}
+use mathlib.Core.Bool.{true, _&&_, not, cond}
 use mathlib.Core.List.{List, [], _∷_}
 use mathlib.Core.Logic.{_↔_}
 use mathlib.Core.Path.{_≡_, refl, sym, ap, ap₂, subst, _∙_}
@@ -8,9 +8,9 @@ use Prim.Native.Nat.{ℕ, _*_, _/_, _≤_, _<_}
 use native.Mathlib.Nat.{zero-add}
 use native.Mathlib.Omega.{arith}
 use lib.Dec.{leb, eqb}
-use lib.IntN.{ℤ, pos, _+ℤ_, _-ℤ_}
+use lib.IntN.{ℤ, pos, _+ℤ_}
 use lib.ListN.{length}
-use lib.Signed.{leZ, _≤ℤ_, _<ℤ_}
+use lib.Signed.{_≤ℤ_}
 use Rattle.terms.specs.declared.Area.{Area}
 use Rattle.terms.specs.declared.Admission.the-variants.{Granted}
 use Rattle.terms.specs.declared.Refusal.the-variants.{SquareOutside, TooDeep, CornersCrossed, NoRoom, OriginLimit}
@@ -29,7 +29,6 @@ use Rattle.windows.specs.Windows.{runs-for-window-at, written, slice-aft
 use Rattle.windows.specs.Within.{old-corners-inside}
 use Rattle.windows.proofs.Determined.{From-to, Window-number, window-apart, window-covered, covered-window, square-covered, covered-square}
 use Rattle.windows.proofs.Determined.{sentence-determines}
-use Rattle.windows.proofs.Answers.{granted-on, granted-lies}
 
 -- A window of old squares, moved: "origin plus the old square"; and at origin 0 0.
 abbrev pub moved-window : Area → Corners → Window

@@ -10,7 +10,7 @@ use Rattle.terms.proofs.Signs.{held}
 use Rattle.division.specs.Division.{Square}
 use Rattle.curve.specs.Placing.{Places}
 use Rattle.curve.proofs.Answers.{within, places, shifted-kept}
-use Rattle.curve.proofs.Finish.{finish-found-at, finish-answered}
+use Rattle.curve.proofs.Finish.{finish-found-at, finish-answered-at}
 use Rattle.curve.proofs.finish_within.Statement.{statement}
 use Rattle.curve.proofs.finish_within.Tie as tie
 
@@ -52,7 +52,7 @@ returns c =
     ap₂ finish-found-at (shifted-kept x-is (at .ox-near) (at .x-limit) (moved-x .shifted .ensures))
     (shifted-kept y-is (at .oy-near) (at .y-limit) (c .shifted2 .ensures))
     ∙ ap (λ (s : Square). finish-found-at (area .ox +ℤ pos (s .x)) (area .oy +ℤ pos (s .y))) (told .last-square .ensures)
-    ∙ sym (finish-answered area (told .before .pre))
+    ∙ sym (finish-answered-at area (told .before .pre))
 
 pub finish-within-spec : {M : Type 1} → statement M
 finish-within-spec = tie.close (tie.spec last-square-requires shifted-requires shifted-requires-2 returns)

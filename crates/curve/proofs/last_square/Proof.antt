@@ -1,5 +1,4 @@
 -- `curve::last_square` meets its contract: each way in which an area ends.
-use borrow.Author.Needs.{needs}
 use mathlib.Core.Bool.{true}
 use mathlib.Core.Path.{_≡_, refl, sym}
 use Prim.Native.Nat.{ℕ, _-_, _%_, _≤_}

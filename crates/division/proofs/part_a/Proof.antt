@@ -1,5 +1,4 @@
 -- `division::part_a` meets its contract: run and side exchange, and with them the bit that says which is along y.
-use borrow.Author.Needs.{needs}
 use Rattle.division.specs.Forms.{block}
 use Rattle.division.proofs.PlacedParts.{a-block}
 use Rattle.division.proofs.WithinLimits.{b-limit}

@@ -1,7 +1,7 @@
 -- The four functions of the walk that counts meet their contracts, by the laws of `Parts`, `Cutting` and `Straight` with an empty list of pairs. The measure is
 -- three times the block's area, plus 0 for a cut, 1 for `count_cut` and 2 for `count_pane`, which are three calls on one block.
 use mathlib.Core.Path.{refl, sym, _∙_}
-use Rattle.panes.proofs.Parts.{no-run, no-side, none-seen, whole-seen, run-seen, side-seen}
+use Rattle.panes.proofs.PartsSeen.{no-run, no-side, none-seen, whole-seen, run-seen, side-seen}
 use Rattle.tallies.proofs.PartByPart.{to-cut, long-two, long-fits, first-call, second-call, second-told, u-two, u-fits, a-call, b-call, c-call, c-told}
 use Rattle.tallies.proofs.Uncut.{whole-joins, run-joins, side-joins, leaf-of}
 use Rattle.panes.proofs.TakingUp.{count-joined}

@@ -1,7 +1,7 @@
 -- The four functions of the walk that writes meet their contracts, by the laws that the walk that counts has too, and room for all pairs is room for those of
 -- each part. The measure is three times the block's area, plus 0 for a cut, 1 for `write_cut` and 2 for `write_pane`.
 use Rattle.tallies.proofs.PartByPart.{to-cut, cut-of, long-two, long-fits, first-call, first-holds, second-call, second-holds, second-told}
-use Rattle.panes.proofs.Parts.{no-run, no-side, none-seen, whole-seen, run-seen, side-seen}
+use Rattle.panes.proofs.PartsSeen.{no-run, no-side, none-seen, whole-seen, run-seen, side-seen}
 use Rattle.tallies.proofs.PartByPart.{u-two, u-fits, a-call, a-holds, b-call, b-holds, c-call, c-holds, c-told}
 use Rattle.tallies.proofs.Uncut.{holds-as, whole-joins, run-joins, side-joins, leaf-of}
 use Rattle.panes.specs.Panes.{pane-at, tally}
