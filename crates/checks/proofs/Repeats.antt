@@ -61,14 +61,13 @@ found-before w t k at least by-square by-number is l =
     sym (ap (λ b. checked b w t k at least) (not-true by-square by-number) ∙ later-kept t least at (map (place w) (curve k)) (omega arith))
 
 -- a block before whose end nothing is wrong, and one that stands
-module _ {w h : ℕ} {t : List ℕ} {k : Block} {at : ℕ} (fits : Fits w h t k at) where
+module _ {kind : Bool} {w h : ℕ} (t : List ℕ) {k : Block} {at : ℕ} (fits : Fits kind w h (length t) k at) where
   long : length (map (place w) (curve k)) ≡ k .a * k .b
   long = length-map (curve k) (place w) ∙ length-curve k (fits .inside .sized)
 
   right-held : (to least : ℕ) → at + k .a * k .b ≤ to → wrong-packed to 0 ≤ checked false w t k at least → Held w t k at
   right-held to least before late =
       let room = fits .room in
-      let size = fits .size in
       let all = squares-fit fits in
       let n = long in
       places-held w t k at (fits .inside .sized) (omega arith)
@@ -101,13 +100,14 @@ comparable-so : (by-square alike : Bool) (to least : ℕ) {told : Bool} → Told
 comparable-so by-square alike to least is taken = comparable-by by-square alike (leb (wrong-packed to 0) least) to least refl (sym is ∙ taken)
 
 -- a part that stands, of the kind that is asked
-stands-so : {w h : ℕ} {t : List ℕ} {k : Block} {at : ℕ} → Fits w h t k at → (by-square : Bool) → by-square ≡ false → Held w t k at → (least : ℕ)
-    → least ≡ checked by-square w t k at least
-stands-so {w} {h} {t} {k} {at} fits by-square by-number held least = held-kept fits held least ∙ ap (λ b. checked b w t k at least) (sym by-number)
+stands-so : {kind : Bool} {w h : ℕ} (t : List ℕ) {k : Block} {at : ℕ} → Fits kind w h (length t) k at → (by-square : Bool) → by-square ≡ false
+    → Held w t k at → (least : ℕ) → least ≡ checked by-square w t k at least
+stands-so {w = w} t {k} {at} fits by-square by-number held least = held-kept t fits held least ∙ ap (λ b. checked b w t k at least) (sym by-number)
 
 -- the long cut's second part, where the code compares it
-module _ {w h : ℕ} {t : List ℕ} {k : Block} {at m : ℕ} (cut : Cut LongCut w h t k at m) {e : ℕ} (half : e ≡ even-half (k .a)) (by-square : Bool) (p q : Placed)
-    (is-p : block p ≡ part First k) (is-q : block q ≡ part Second k) (so-far : ℕ) {found : ℕ} (first : found ≡ checked by-square w t (block p) at so-far)
+module _ {kind : Bool} {w h : ℕ} (t : List ℕ) {k : Block} {at m : ℕ} (cut : Cut kind LongCut w h (length t) k at m) {e : ℕ} (half : e ≡ even-half (k .a))
+    (by-square : Bool) (p q : Placed) (is-p : block p ≡ part First k) (is-q : block q ≡ part Second k) (so-far : ℕ) {found : ℕ}
+    (first : found ≡ checked by-square w t (block p) at so-far)
     {told : Bool} (is : Told told by-square (eqb e (k .a - e)) (at + e * k .b) found) (taken : told ≡ true) where
   second-compared : Comparable by-square (eqb e (k .a - e)) (at + e * k .b) found
   second-compared = comparable-so by-square (eqb e (k .a - e)) (at + e * k .b) found is taken
@@ -119,16 +119,16 @@ module _ {w h : ℕ} {t : List ℕ} {k : Block} {at m : ℕ} (cut : Cut LongCut 
       let late = second-compared .late in
       let by-number = first ∙ ap (λ b. checked b w t (block p) at so-far) (second-compared .by-number) in
       second-again cut half p q is-p is-q refl
-      (right-held (first-call cut half p is-p .1) (at + e * k .b) so-far (omega arith) (omega arith))
+      (right-held t (first-call cut half p is-p .1) (at + e * k .b) so-far (omega arith) (omega arith))
       (eqb-true e (k .a - e) (second-compared .is-alike))
 
   pub second-stands : Held w t (block q) (at + e * k .b) → found ≡ checked by-square w t (block q) (at + e * k .b) found
-  second-stands held = stands-so (second-asks .fits) by-square (second-compared .by-number) held found
+  second-stands held = stands-so t (second-asks .fits) by-square (second-compared .by-number) held found
 
 -- the U cut's C, behind A and B
-module _ {w h : ℕ} {t : List ℕ} {k : Block} {at m : ℕ} (cut : Cut UCut w h t k at m) {e : ℕ} (half : e ≡ even-half (k .b)) (by-square : Bool) (p q r : Placed)
-    (is-p : block p ≡ part A k) (is-r : block r ≡ part C k) (so-far : ℕ) {found-a found-b : ℕ} (first : found-a ≡ checked by-square w t (block p) at so-far)
-    (second : found-b ≡ checked by-square w t (block q) (at + e * (k .a / 2)) found-a)
+module _ {kind : Bool} {w h : ℕ} (t : List ℕ) {k : Block} {at m : ℕ} (cut : Cut kind UCut w h (length t) k at m) {e : ℕ} (half : e ≡ even-half (k .b))
+    (by-square : Bool) (p q r : Placed) (is-p : block p ≡ part A k) (is-r : block r ≡ part C k) (so-far : ℕ) {found-a found-b : ℕ}
+    (first : found-a ≡ checked by-square w t (block p) at so-far) (second : found-b ≡ checked by-square w t (block q) (at + e * (k .a / 2)) found-a)
     {told : Bool} (is : Told told by-square (eqb (k .a % 2) 0) (at + e * (k .a / 2) + k .a * (k .b - e)) found-b) (taken : told ≡ true) where
   abbrev to-c : ℕ
   to-c = at + e * (k .a / 2) + k .a * (k .b - e)
@@ -145,9 +145,9 @@ module _ {w h : ℕ} {t : List ℕ} {k : Block} {at m : ℕ} (cut : Cut UCut w h
       let falls = over-most by-square t found-a (at + e * (k .a / 2)) (map (place w) (curve (block q))) in
       let even = eqb-true (k .a % 2) 0 (c-compared .is-alike) in
       c-again cut half p r is-p is-r refl
-      (right-held (a-call cut half p is-p .1) to-c so-far (omega arith) (omega arith))
+      (right-held t (a-call cut half p is-p .1) to-c so-far (omega arith) (omega arith))
       (omega arith)
 
   pub c-stands : Held w t (block r) (at + e * (k .a / 2) + k .a * (k .b - e))
       → found-b ≡ checked by-square w t (block r) (at + e * (k .a / 2) + k .a * (k .b - e)) found-b
-  c-stands held = stands-so (c-asks .fits) by-square (c-compared .by-number) held found-b
+  c-stands held = stands-so t (c-asks .fits) by-square (c-compared .by-number) held found-b

@@ -5,6 +5,7 @@ use terms::Area;
 ghost use mathlib.Core.Bool.{false, cond};
 ghost use mathlib.Core.Path.{_≡_};
 ghost use lib.Dec.{leb};
+ghost use lib.ListN.{length};
 ghost use Rattle.division.specs.declared.Choice.the-variants.{LongCut, UCut};
 ghost use Rattle.division.specs.Division.{choice};
 ghost use Rattle.division.specs.Forms.{block, block-at};
@@ -20,7 +21,7 @@ pub fn check_block(
     by_square: bool,
     so_far: u64,
 ) -> u64
-    requires { ⌜ Fits (area .w) (area .h) (now table) (block k) at ⌝ }
+    requires { ⌜ Fits «by_square» (area .w) (area .h) (length (now table)) (block k) at ⌝ }
     ensures { λ r. ⌜ r ≡ checked «by_square» (area .w) (now (table .entry)) (block k) at «so_far» ⌝ }
 {
     if !by_square {
@@ -57,7 +58,7 @@ fn check_choice(
     by_square: bool,
     so_far: u64,
 ) -> u64
-    requires { ⌜ Fits (area .w) (area .h) (now table) (block-at along across turned back a b) at ⌝ }
+    requires { ⌜ Fits «by_square» (area .w) (area .h) (length (now table)) (block-at along across turned back a b) at ⌝ }
     ensures { λ r. ⌜ r ≡ checked «by_square» (area .w) (now (table .entry)) (block-at along across turned back a b) at «so_far» ⌝ }
 {
     let k = Placed {
@@ -113,7 +114,7 @@ fn check_long_cut(
     by_square: bool,
     so_far: u64,
 ) -> u64
-    requires { ⌜ Fits (area .w) (area .h) (now table) (block k) at × (choice (k .a) (k .b) ≡ LongCut) ⌝ }
+    requires { ⌜ Fits «by_square» (area .w) (area .h) (length (now table)) (block k) at × (choice (k .a) (k .b) ≡ LongCut) ⌝ }
     ensures { λ r. ⌜ r ≡ checked «by_square» (area .w) (now (table .entry)) (block k) at «so_far» ⌝ }
 {
     let e = division::even_half(k.a);
@@ -131,7 +132,7 @@ fn check_long_cut(
 
 // The three parts of a U cut. By number C repeats A, turned round, where the run is even.
 fn check_u_cut(table: &[u32], k: Placed, area: Area, at: u32, by_square: bool, so_far: u64) -> u64
-    requires { ⌜ Fits (area .w) (area .h) (now table) (block k) at × (choice (k .a) (k .b) ≡ UCut) ⌝ }
+    requires { ⌜ Fits «by_square» (area .w) (area .h) (length (now table)) (block k) at × (choice (k .a) (k .b) ≡ UCut) ⌝ }
     ensures { λ r. ⌜ r ≡ checked «by_square» (area .w) (now (table .entry)) (block k) at «so_far» ⌝ }
 {
     let e = division::even_half(k.b);

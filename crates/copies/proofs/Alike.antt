@@ -103,8 +103,8 @@ same-squares again = ap₂ _*_ (again .same-a) (again .same-b)
 pub both-fit : {w h : ℕ} {t : List ℕ} {j : Block} {from : ℕ} {k : Block} {to : ℕ} {opposite : Bool} → Again w h t j from k to opposite
     → (k .a * k .b < past-32-bits) × (from + k .a * k .b ≤ to) × (to + k .a * k .b ≤ length t)
 both-fit again =
+    let numbers = again .fits .numbers in
     let room = again .fits .room in
-    let size = again .fits .size in
     let all = squares-fit (again .fits) in
     let before = again .before in
     let same = same-squares again in

@@ -107,12 +107,11 @@ places-held w t k from sized room same =
     (λ i l. let below : i < n = omega arith in getD-take n (drop from t) i 0 below ∙ getD-drop from t i 0 ∙ same i below)
 
 -- a block that is entered stands in the table
-pub over-held : {w h : ℕ} {t : List ℕ} {k : Block} {at : ℕ} → Fits w h t k at → Held w (filled-with false w t k at) k at
-over-held {w} {h} {t} {k} {at} fits =
+pub over-held : {kind : Bool} {w h : ℕ} (t : List ℕ) {k : Block} {at : ℕ} → Fits kind w h (length t) k at → Held w (filled-with false w t k at) k at
+over-held {w = w} t {k} {at} fits =
     let ps = map (place w) (curve k) in
     let long : length ps ≡ k .a * k .b = length-map (curve k) (place w) ∙ length-curve k (fits .inside .sized) in
     let room = fits .room in
-    let size = fits .size in
     ap (λ zs. take (k .a * k .b) (drop at zs)) (numbers-entered t at ps (omega arith))
     ∙ ap (take (k .a * k .b)) (drop-at (take at t) (ps ++ drop (at + length ps) t) at (length-take-le at t (omega arith)))
     ∙ take-at ps (drop (at + length ps) t) (k .a * k .b) long

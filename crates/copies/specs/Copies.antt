@@ -4,7 +4,7 @@ use mathlib.Core.Bool.{Bool, true, false, cond}
 use mathlib.Core.List.{List, map}
 use mathlib.Core.Path.{_≡_}
 use Prim.Native.Nat.{ℕ, _+_, _-_, _*_, _%_, _≤_, _<_}
-use lib.ListN.{getD, take, drop}
+use lib.ListN.{length, getD, take, drop}
 use Rattle.terms.specs.Terms.{past-32-bits}
 use Rattle.division.specs.Division.{Direction, Block, against, curve}
 use Rattle.division.specs.Division.Inside.{Inside}
@@ -37,7 +37,7 @@ Tells r P = (r ≡ true → P) × (P → r ≡ true)
 
 -- Block k, which has its room from `to` on, repeats block j, which stands in the table from `from` on, before it.
 pub record Again (w h : ℕ) (t : List ℕ) (j : Block) (from : ℕ) (k : Block) (to : ℕ) (opposite : Bool) : Type 0 where
-  pub fits : Fits w h t k to
+  pub fits : Fits false w h (length t) k to
   pub inside : Inside w h j
   pub held : Held w t j from
   pub before : from + j .a * j .b ≤ to

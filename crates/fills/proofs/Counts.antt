@@ -1,5 +1,6 @@
 -- What a fill counts of a block: the block itself and the blocks of its parts.
-use mathlib.Core.List.{List, _++_}
+use mathlib.Core.Bool.{Bool}
+use mathlib.Core.List.{_++_}
 use mathlib.Core.Path.{_≡_, sym, ap, _∙_}
 use Prim.Native.Nat.{ℕ, suc, _+_, _<_}
 use native.Mathlib.Nat.{mul-le-mul}
@@ -16,16 +17,16 @@ use Rattle.leaves.proofs.Straight.{run-count}
 use Rattle.leaves.proofs.PartByPart.{Cut, side-call}
 
 -- a count of blocks is a 64-bit number
-pub few : {w h : ℕ} {t : List ℕ} {k : Block} {at : ℕ} → Fits w h t k at → length (blocks k) < 8589934592
-few {k = k} room =
-    let most = few-blocks k (room .inside .sized) in
-    let squares = room .room in
-    let all = mul-le-mul (room .w-limit) (room .h-limit) in
+pub few : {kind : Bool} {w h size : ℕ} {k : Block} {at : ℕ} → Fits kind w h size k at → length (blocks k) < 8589934592
+few {k = k} fits =
+    let most = few-blocks k (fits .inside .sized) in
+    let numbers = fits .numbers in
+    let all = mul-le-mul (fits .w-limit) (fits .h-limit) in
     omega arith
 
 -- the long cut, whose parts the code counts
-module _ {w h : ℕ} {t : List ℕ} {k : Block} {at m : ℕ} (cut : Cut LongCut w h t k at m) {p q : Block} (is-p : p ≡ part First k) (is-q : q ≡ part Second k)
-    {i j : ℕ} (count-p : i ≡ length (blocks p)) (count-q : j ≡ length (blocks q)) where
+module _ {kind : Bool} {w h size : ℕ} {k : Block} {at m : ℕ} (cut : Cut kind LongCut w h size k at m) {p q : Block}
+    (is-p : p ≡ part First k) (is-q : q ≡ part Second k) {i j : ℕ} (count-p : i ≡ length (blocks p)) (count-q : j ≡ length (blocks q)) where
   pub long-count : i + j + 1 ≡ length (blocks k)
   long-count =
       let sum =
@@ -36,7 +37,7 @@ module _ {w h : ℕ} {t : List ℕ} {k : Block} {at m : ℕ} (cut : Cut LongCut 
       omega arith
 
 -- the U cut
-module _ {w h : ℕ} {t : List ℕ} {k : Block} {at m : ℕ} (cut : Cut UCut w h t k at m) {p q r : Block} (is-p : p ≡ part A k) (is-q : q ≡ part B k)
+module _ {kind : Bool} {w h size : ℕ} {k : Block} {at m : ℕ} (cut : Cut kind UCut w h size k at m) {p q r : Block} (is-p : p ≡ part A k) (is-q : q ≡ part B k)
     (is-r : r ≡ part C k) {i j l : ℕ} (count-p : i ≡ length (blocks p)) (count-q : j ≡ length (blocks q)) (count-r : l ≡ length (blocks r)) where
   pub u-count : i + j + l + 1 ≡ length (blocks k)
   u-count =
@@ -50,7 +51,7 @@ module _ {w h : ℕ} {t : List ℕ} {k : Block} {at m : ℕ} (cut : Cut UCut w h
       omega arith
 
 -- a straight block with run and side exchanged: one block as well
-pub side-count : {w h : ℕ} {t : List ℕ} {k : Block} {at : ℕ} → Fits w h t k at → choice (k .a) (k .b) ≡ StraightSide → (r : Placed) → block r ≡ exchanged k
-    → length (blocks (block r)) ≡ length (blocks k)
-side-count {k = k} room case r there =
-    sym (run-count r (side-call room case r there)) ∙ sym (ap length (rule k StraightSide (room .inside .sized) case .1))
+pub side-count : {kind : Bool} {w h size : ℕ} {k : Block} {at : ℕ} → Fits kind w h size k at → choice (k .a) (k .b) ≡ StraightSide → (r : Placed)
+    → block r ≡ exchanged k → length (blocks (block r)) ≡ length (blocks k)
+side-count {k = k} fits case r there =
+    sym (run-count r (side-call fits case r there)) ∙ sym (ap length (rule k StraightSide (fits .inside .sized) case .1))

@@ -24,28 +24,28 @@ module _ (by-square : Bool) (by-number : not by-square ≡ true) where
   pub copied-so : (w : ℕ) (t : List ℕ) (k : Block) (at : ℕ) {s : List ℕ} → s ≡ filled-with false w t k at → s ≡ filled-with by-square w t k at
   copied-so w t k at is = is ∙ of-kind w t k at
 
-  held-so : {w h : ℕ} {t s : List ℕ} {k : Block} {at : ℕ} → Fits w h t k at → s ≡ filled-with by-square w t k at → Held w s k at
-  held-so {w} {h} {t} {s} {k} {at} fits is = subst⁻¹ (λ (zs : List ℕ). Held w zs k at) (is ∙ sym (of-kind w t k at)) (over-held fits)
+  held-so : {kind : Bool} {w h : ℕ} (t : List ℕ) {s : List ℕ} {k : Block} {at : ℕ} → Fits kind w h (length t) k at
+      → s ≡ filled-with by-square w t k at → Held w s k at
+  held-so {w = w} t {k = k} {at} fits is = subst⁻¹ (λ (zs : List ℕ). Held w zs k at) (is ∙ sym (of-kind w t k at)) (over-held t fits)
 
   -- the long cut's second part
-  pub second-asks : {w h : ℕ} {t : List ℕ} {k : Block} {at m : ℕ} (cut : Cut LongCut w h t k at m) {e : ℕ} → e ≡ even-half (k .a)
+  pub second-asks : {kind : Bool} {w h : ℕ} (t : List ℕ) {k : Block} {at m : ℕ} (cut : Cut kind LongCut w h (length t) k at m) {e : ℕ} → e ≡ even-half (k .a)
       → (p q : Placed) → block p ≡ part First k → block q ≡ part Second k → {s : List ℕ} → s ≡ filled-with by-square w t (block p) at → length s ≡ length t
       → e ≡ k .a - e → Again w h s (block p) at (block q) (at + e * k .b) false
-  second-asks cut half p q is-p is-q first same equal = second-again cut half p q is-p is-q same (held-so (first-call cut half p is-p .1) first) equal
+  second-asks t cut half p q is-p is-q first same equal = second-again cut half p q is-p is-q same (held-so t (first-call cut half p is-p .1) first) equal
 
   -- the U cut's C, behind A and B; the code has A twice
-  pub c-asks : {w h : ℕ} {t : List ℕ} {k : Block} {at m : ℕ} (cut : Cut UCut w h t k at m) {e : ℕ} → e ≡ even-half (k .b)
+  pub c-asks : {kind : Bool} {w h : ℕ} (t : List ℕ) {k : Block} {at m : ℕ} (cut : Cut kind UCut w h (length t) k at m) {e : ℕ} → e ≡ even-half (k .b)
       → (p q p′ r : Placed) → block p ≡ part A k → block p′ ≡ part A k → block r ≡ part C k → {s s′ : List ℕ} → s ≡ filled-with by-square w t (block p) at
       → s′ ≡ filled-with by-square w s (block q) (at + e * (k .a / 2)) → length s ≡ length t → length s′ ≡ length s → k .a % 2 ≡ 0
       → Again w h s′ (block p′) at (block r) (at + e * (k .a / 2) + k .a * (k .b - e)) true
   unfolding part
-  c-asks {w} {h} {t} {k} {at} cut {e} half p q p′ r is-p is-p′ is-r {s} {s′} first second same same′ even =
+  c-asks {w = w} t {k} {at} cut {e} half p q p′ r is-p is-p′ is-r {s} {s′} first second same same′ even =
       let room = cut .1 .0 .room in
-      let size = cut .1 .0 .size in
       let squares : p .a * p .b ≡ e * (k .a / 2) = ap₂ _*_ (ap (λ b. b .a) is-p ∙ sym half) (ap (λ b. b .b) is-p) in
       c-again cut half p′ r is-p′ is-r (same′ ∙ same)
       (subst (λ (j : Block). Held w s′ j at) (is-p ∙ sym is-p′)
       (subst⁻¹ (λ (zs : List ℕ). Held w zs (block p) at) (second ∙ sym (of-kind w s (block q) (at + e * (k .a / 2))))
       (held-on w s (block p) at (at + e * (k .a / 2)) (map (place w) (curve (block q))) (omega arith) (omega arith)
-      (held-so (a-call cut half p is-p .1) first))))
+      (held-so t (a-call cut half p is-p .1) first))))
       (omega arith)

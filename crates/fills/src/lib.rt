@@ -11,7 +11,7 @@ ghost use Rattle.leaves.specs.Walk.{filled-with, Fits};
 
 // A block, its fields handed on one by one: handed on whole it would be copied at each call, which nearly doubles the time.
 pub fn fill_block(table: &mut [u32], k: Placed, area: Area, at: u32, by_square: bool) -> u64
-    requires { ⌜ Fits (area .w) (area .h) (now table) (block k) at ⌝ }
+    requires { ⌜ Fits «by_square» (area .w) (area .h) (length (now table)) (block k) at ⌝ }
     ensures table { λ r. ⌜ now (table .exit) ≡ filled-with «by_square» (area .w) (now (table .entry)) (block k) at ⌝ }
     ensures count { λ r. ⌜ r ≡ length (blocks (block k)) ⌝ }
 {
@@ -42,7 +42,7 @@ fn fill_choice(
     at: u32,
     by_square: bool,
 ) -> u64
-    requires { ⌜ Fits (area .w) (area .h) (now table) (block-at along across turned back a b) at ⌝ }
+    requires { ⌜ Fits «by_square» (area .w) (area .h) (length (now table)) (block-at along across turned back a b) at ⌝ }
     ensures table { λ r. ⌜ now (table .exit) ≡ filled-with «by_square» (area .w) (now (table .entry)) (block-at along across turned back a b) at ⌝ }
     ensures count { λ r. ⌜ r ≡ length (blocks (block-at along across turned back a b)) ⌝ }
 {
@@ -78,7 +78,7 @@ fn fill_choice(
 
 // The two parts of a long cut. By number the second repeats the first where it is as long: it is copied.
 fn fill_long_cut(table: &mut [u32], k: Placed, area: Area, at: u32, by_square: bool) -> u64
-    requires { ⌜ Fits (area .w) (area .h) (now table) (block k) at × (choice (k .a) (k .b) ≡ LongCut) ⌝ }
+    requires { ⌜ Fits «by_square» (area .w) (area .h) (length (now table)) (block k) at × (choice (k .a) (k .b) ≡ LongCut) ⌝ }
     ensures table { λ r. ⌜ now (table .exit) ≡ filled-with «by_square» (area .w) (now (table .entry)) (block k) at ⌝ }
     ensures count { λ r. ⌜ r ≡ length (blocks (block k)) ⌝ }
 {
@@ -100,7 +100,7 @@ fn fill_long_cut(table: &mut [u32], k: Placed, area: Area, at: u32, by_square: b
 // The three parts of a U cut. By number C repeats A, turned round, where the run is even: it is copied. A part is handed on in memory, so all three have one
 // place: a walk's stack is as deep as its blocks.
 fn fill_u_cut(table: &mut [u32], k: Placed, area: Area, at: u32, by_square: bool) -> u64
-    requires { ⌜ Fits (area .w) (area .h) (now table) (block k) at × (choice (k .a) (k .b) ≡ UCut) ⌝ }
+    requires { ⌜ Fits «by_square» (area .w) (area .h) (length (now table)) (block k) at × (choice (k .a) (k .b) ≡ UCut) ⌝ }
     ensures table { λ r. ⌜ now (table .exit) ≡ filled-with «by_square» (area .w) (now (table .entry)) (block k) at ⌝ }
     ensures count { λ r. ⌜ r ≡ length (blocks (block k)) ⌝ }
 {

@@ -1,14 +1,15 @@
 -- Entries in a table: those of two lists in a row are those of the lists joined, and a square's place lies in its area's table.
 use mathlib.Core.Bool.{Bool, true, false, cond}
 use mathlib.Core.List.{List, [], _∷_, _++_, map, map-append}
-use mathlib.Core.Path.{_≡_, refl, sym, ap, _∙_}
+use mathlib.Core.Path.{_≡_, refl, sym, ap, subst⁻¹, _∙_}
 use Prim.Native.Nat.{ℕ, suc, _+_, _*_, _≤_, _<_}
 use native.Mathlib.Nat.{add-zero, add-suc, suc-add, suc-mul, mul-comm, mul-le-mul-right}
 use native.Mathlib.Omega.{arith}
 use lib.ListN.{length, length-set, length-map}
 use Rattle.terms.specs.Terms.{longest-side, past-32-bits}
-use Rattle.division.specs.Division.{Square, Block, Direction, moved, row}
+use Rattle.division.specs.Division.{Square, Block, Direction, whole, moved, row}
 use Rattle.division.specs.Division.Inside.{Inside}
+use Rattle.division.proofs.Blocks.{whole-inside}
 use Rattle.division.proofs.EachSquareOnce.{row-length}
 use Rattle.division.proofs.Descent.{row-more}
 use Rattle.division.proofs.Coordinates.{Within}
@@ -16,8 +17,8 @@ use Rattle.division.proofs.WithinLimits.{inside-grow, product-limit}
 use Rattle.leaves.specs.Walk.{place, over, enter-one, Fits}
 
 -- a square's place in a table of either kind
-pub either-below : (n p size : ℕ) (by-square : Bool) → n < size → p < size → cond by-square p n < size
-either-below n p size true l m = m
+pub either-below : (n p size : ℕ) (by-square : Bool) → n < size → (by-square ≡ true → p < size) → cond by-square p n < size
+either-below n p size true l m = m refl
 either-below n p size false l m = l
 
 pub enter-length : (by-square : Bool) (t : List ℕ) (n : ℕ) (ps : List ℕ) → length (over (enter-one by-square) t n ps) ≡ length t
@@ -54,8 +55,23 @@ place-below w h s l =
     omega (arith, mul-comm w h)
 
 -- What a walk knows of its block.
-pub largest : {w h : ℕ} {t : List ℕ} {k : Block} {at : ℕ} → Fits w h t k at → Inside longest-side longest-side k
+pub largest : {kind : Bool} {w h size : ℕ} {k : Block} {at : ℕ} → Fits kind w h size k at → Inside longest-side longest-side k
 largest {w} {h} {k = k} f = inside-grow w h longest-side longest-side (f .w-limit) (f .h-limit) k (f .inside)
 
-pub squares-fit : {w h : ℕ} {t : List ℕ} {k : Block} {at : ℕ} → Fits w h t k at → w * h < past-32-bits
+pub squares-fit : {kind : Bool} {w h size : ℕ} {k : Block} {at : ℕ} → Fits kind w h size k at → w * h < past-32-bits
 squares-fit {w} {h} f = product-limit w h (f .w-limit) (f .h-limit)
+
+-- the whole area fits a table of as many places as it has squares
+pub whole-fits : (kind : Bool) (w h size : ℕ) → 1 ≤ w → w ≤ longest-side → 1 ≤ h → h ≤ longest-side → w * h ≤ size → (k : Block) → k ≡ whole w h
+    → Fits kind w h size k 0
+unfolding whole
+whole-fits kind w h size some-w most-w some-h most-h room k is =
+    subst⁻¹ (λ (k : Block). Fits kind w h size k 0) is
+    (record {
+      w-limit = most-w;
+      h-limit = most-h;
+      inside = whole-inside w h some-w some-h;
+      numbers = omega arith;
+      room = omega arith;
+      places = λ e. room;
+    })

@@ -17,7 +17,7 @@ use Rattle.division.proofs.SameLengths.{curve-alike}
 use Rattle.division.proofs.Small.{two-deep, three-deep, blocks-two, blocks-three}
 use Rattle.division.proofs.PlacedParts.{side-moved}
 use Rattle.leaves.specs.Walk.{place, over, over-block, near, far, Fits}
-use Rattle.leaves.proofs.Entries.{place-below, squares-fit}
+use Rattle.leaves.proofs.Entries.{either-below, place-below, squares-fit}
 
 -- two steps on the squares numbered n and n + 1
 abbrev twice : {S : Type 0} → (S → ℕ → ℕ → S) → S → (n p q : ℕ) → S
@@ -57,17 +57,17 @@ module _ {w h : ℕ} {k : Block} (i : Inside w h k) (ea : k .a ≡ 2) where
   squares-three eb = up-and-down 3 eb _ three-deep ∙ (λ j. near-spot 0 j ∷ near-spot 1 j ∷ near-spot 2 j ∷ far k 2 ∷ far k 1 ∷ far k 0 ∷ [])
 
 -- What a walk asks of such a block; the places of the two squares that lie v along its side.
-abbrev pub Leaf : (w h : ℕ) → List ℕ → Block → (at : ℕ) → Type 0
-Leaf w h t k at = Fits w h t k at × (k .a ≡ 2) × (2 ≤ k .b) × (k .b ≤ 3)
+abbrev pub Leaf : (kind : Bool) (w h size : ℕ) → Block → (at : ℕ) → Type 0
+Leaf kind w h size k at = Fits kind w h size k at × (k .a ≡ 2) × (2 ≤ k .b) × (k .b ≤ 3)
 
 abbrev Rung : (w : ℕ) → Block → (v near-place far-place : ℕ) → Type 0
 Rung w k v p q = (p ≡ place w (near k v)) × (q ≡ place w (far k v))
 
--- Two numbers from n on fit, and lie in a table of a size as their squares' places do.
-abbrev Two-fit : (n size p q : ℕ) → Type 0
-Two-fit n size p q = (n + 1 < past-32-bits) × (n + 1 < size) × (p < size) × (q < size)
+-- Two numbers from n on fit, and a table of a size has the places of their squares in it.
+abbrev Two-fit : (kind : Bool) (n size p q : ℕ) → Type 0
+Two-fit kind n size p q = (n + 1 < past-32-bits) × (cond kind p n < size) × (cond kind q (n + 1) < size)
 
-module _ {w h : ℕ} {t : List ℕ} {k : Block} {at : ℕ} (leaf : Leaf w h t k at) where
+module _ {kind : Bool} {w h size : ℕ} {k : Block} {at : ℕ} (leaf : Leaf kind w h size k at) where
   deep-three : (k .b ≡ 2 → ⊥) → k .b ≡ 3
   deep-three other =
       let least = leaf .2 in
@@ -86,7 +86,7 @@ module _ {w h : ℕ} {t : List ℕ} {k : Block} {at : ℕ} (leaf : Leaf w h t k 
   leaf-number n l =
       let all : k .a * k .b ≡ 2 * k .b = ap (λ m. m * k .b) (leaf .1) in
       let least = leaf .2 in
-      let room = leaf .0 .room in
+      let numbers = leaf .0 .numbers in
       let fits = squares-fit (leaf .0) in
       omega arith
 
@@ -97,29 +97,34 @@ module _ {w h : ℕ} {t : List ℕ} {k : Block} {at : ℕ} (leaf : Leaf w h t k 
   far-in : {v p : ℕ} → v < k .b → p ≡ place w (far k v) → p < w * h
   far-in l is = far-below (leaf .0 .inside) (leaf .1) _ l is
 
-  -- room for two numbers of the block, and for their squares' places
-  module _ {size : ℕ} (same : size ≡ length t) where
-    two-fit : (n : ℕ) → n + 2 ≤ at + 2 * k .b → {p q : ℕ} → p < w * h → q < w * h → Two-fit n size p q
-    two-fit n l below-p below-q =
+  -- room for two squares of the block, in a table as long
+  module _ {long : ℕ} (same : long ≡ size) where
+    one-fits : (n : ℕ) → n < at + 2 * k .b → {p : ℕ} → p < w * h → cond kind p n < long
+    one-fits n l below =
         let all : k .a * k .b ≡ 2 * k .b = ap (λ m. m * k .b) (leaf .1) in
         let room = leaf .0 .room in
-        let whole-size = leaf .0 .size in
-        let fits = squares-fit (leaf .0) in
-        (omega arith, omega arith, omega arith, omega arith)
+        either-below n _ long kind (omega arith) (λ e. let places = leaf .0 .places e in omega arith)
 
-    pub up-fits : {p q : ℕ} → p ≡ place w (near k 0) → q ≡ place w (near k 1) → Two-fit at size p q
+    two-fit : (n : ℕ) → n + 2 ≤ at + 2 * k .b → {p q : ℕ} → p < w * h → q < w * h → Two-fit kind n long p q
+    two-fit n l below-p below-q =
+        let all : k .a * k .b ≡ 2 * k .b = ap (λ m. m * k .b) (leaf .1) in
+        let numbers = leaf .0 .numbers in
+        let fits = squares-fit (leaf .0) in
+        (omega arith, one-fits n (omega arith) below-p, one-fits (n + 1) (omega arith) below-q)
+
+    pub up-fits : {p q : ℕ} → p ≡ place w (near k 0) → q ≡ place w (near k 1) → Two-fit kind at long p q
     up-fits is-p is-q = let least = leaf .2 in two-fit at (omega arith) (near-in (omega arith) is-p) (near-in (omega arith) is-q)
 
-    pub top-fits : (k .b ≡ 2 → ⊥) → {p q : ℕ} → Rung w k 2 p q → Two-fit (at + 2) size p q
+    pub top-fits : (k .b ≡ 2 → ⊥) → {p q : ℕ} → Rung w k 2 p q → Two-fit kind (at + 2) long p q
     top-fits other is = let three = deep-three other in two-fit (at + 2) (omega arith) (near-in (omega arith) (is .0)) (far-in (omega arith) (is .1))
 
-    down-fits : (n : ℕ) → n + 2 ≤ 2 * k .b → {p q : ℕ} → p ≡ place w (far k 1) → q ≡ place w (far k 0) → Two-fit (at + n) size p q
+    down-fits : (n : ℕ) → n + 2 ≤ 2 * k .b → {p q : ℕ} → p ≡ place w (far k 1) → q ≡ place w (far k 0) → Two-fit kind (at + n) long p q
     down-fits n l is-p is-q = let least = leaf .2 in two-fit (at + n) (omega arith) (far-in (omega arith) is-p) (far-in (omega arith) is-q)
 
-    pub down-from-two : {p q : ℕ} → p ≡ place w (far k 1) → q ≡ place w (far k 0) → Two-fit (at + 2) size p q
+    pub down-from-two : {p q : ℕ} → p ≡ place w (far k 1) → q ≡ place w (far k 0) → Two-fit kind (at + 2) long p q
     down-from-two is-p is-q = let least = leaf .2 in down-fits 2 (omega arith) is-p is-q
 
-    pub down-from-three : (k .b ≡ 2 → ⊥) → {p q : ℕ} → p ≡ place w (far k 1) → q ≡ place w (far k 0) → Two-fit (at + 4) size p q
+    pub down-from-three : (k .b ≡ 2 → ⊥) → {p q : ℕ} → p ≡ place w (far k 1) → q ≡ place w (far k 0) → Two-fit kind (at + 4) long p q
     down-from-three other is-p is-q = let three = deep-three other in down-fits 4 (omega arith) is-p is-q
 
   -- its blocks

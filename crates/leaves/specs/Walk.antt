@@ -1,11 +1,11 @@
 -- What the walks that fill and check a table ask and leave: for each square of a block, in the curve's order, an entry stored or a place looked at.
 -- For one block, the fills and the check of document 01, "What a lookup and a table say".
-use mathlib.Core.Bool.{Bool, cond}
+use mathlib.Core.Bool.{Bool, true, cond}
 use mathlib.Core.List.{List, [], _∷_, map}
 use mathlib.Core.Path.{_≡_}
 use Prim.Native.Nat.{ℕ, suc, _+_, _*_, _/_, _%_, _≤_, min}
 use lib.Dec.{eqb}
-use lib.ListN.{length, getD, set}
+use lib.ListN.{getD, set}
 use Rattle.terms.specs.Terms.{longest-side, past-32-bits}
 use Rattle.division.specs.Division.{Square, Block, moved, curve}
 use Rattle.division.specs.Division.Inside.{Inside}
@@ -45,13 +45,15 @@ least-one by-square t least n p =
 abbrev pub checked : (by-square : Bool) (w : ℕ) → List ℕ → Block → (at least : ℕ) → ℕ
 checked by-square w t k at least = over-block (least-one by-square t) least w k at
 
--- A block that lies within the area of the table, with room for its squares' numbers from `at` on.
-pub record Fits (w h : ℕ) (t : List ℕ) (k : Block) (at : ℕ) : Type 0 where
+-- A block that lies within its area, and whose numbers from `at` on are the area's, with room for it in a table of `size` places: by number as far as the
+-- block's numbers go, so that a stretch of a table will do; by square for every square of the area, since its places lie anywhere.
+pub record Fits (by-square : Bool) (w h size : ℕ) (k : Block) (at : ℕ) : Type 0 where
   pub w-limit : w ≤ longest-side
   pub h-limit : h ≤ longest-side
   pub inside : Inside w h k
-  pub size : length t ≡ w * h
-  pub room : at + k .a * k .b ≤ w * h
+  pub numbers : at + k .a * k .b ≤ w * h
+  pub room : at + k .a * k .b ≤ size
+  pub places : by-square ≡ true → w * h ≤ size
 
 -- A block with run and side exchanged: where it is straight, the same squares in the same order.
 unfoldable pub exchanged : Block → Block

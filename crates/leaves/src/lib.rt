@@ -7,10 +7,24 @@ ghost use Prim.Native.Nat.{_+_, _≤_, _<_};
 ghost use lib.ListN.{length};
 ghost use Rattle.terms.specs.Terms.{longest-side, past-32-bits};
 ghost use Rattle.division.specs.declared.Choice.the-variants.{StraightRun};
-ghost use Rattle.division.specs.Division.{square, choice, blocks};
+ghost use Rattle.division.specs.Division.{square, whole, choice, blocks};
 ghost use Rattle.division.specs.Division.Inside.{Inside};
 ghost use Rattle.division.specs.Forms.{block};
 ghost use Rattle.leaves.specs.Walk.{place, enter-one, filled-with, exchanged, near, far, Fits, least-one, checked, wrong-packed, wrong-unpacked};
+
+// The whole area as a block, on which a walk begins.
+pub fn whole_block(area: Area) -> Placed
+    ensures { λ r. ⌜ block r ≡ whole (area .w) (area .h) ⌝ }
+{
+    Placed {
+        along: 0,
+        across: 0,
+        turned: false,
+        back: false,
+        a: area.w,
+        b: area.h,
+    }
+}
 
 // A square's place in a table by square.
 pub fn place_of(along: u32, across: u32, turned: bool, w: u32) -> u32
@@ -22,7 +36,7 @@ pub fn place_of(along: u32, across: u32, turned: bool, w: u32) -> u32
 
 // Enters square number n, which has the place p.
 fn enter(table: &mut [u32], n: u32, p: u32, by_square: bool)
-    requires { ⌜ (n < length (now table)) × (p < length (now table)) ⌝ }
+    requires { ⌜ cond «by_square» p n < length (now table) ⌝ }
     ensures { λ r. ⌜ now (table .exit) ≡ enter-one «by_square» (now (table .entry)) n p ⌝ }
 {
     let i = division::either(by_square, p, n) as usize;
@@ -31,7 +45,7 @@ fn enter(table: &mut [u32], n: u32, p: u32, by_square: bool)
 
 // The squares of a straight block, which follow in its run.
 pub fn fill_straight(table: &mut [u32], k: Placed, area: Area, at: u32, by_square: bool) -> u64
-    requires { ⌜ Fits (area .w) (area .h) (now table) (block k) at × (choice (k .a) (k .b) ≡ StraightRun) ⌝ }
+    requires { ⌜ Fits «by_square» (area .w) (area .h) (length (now table)) (block k) at × (choice (k .a) (k .b) ≡ StraightRun) ⌝ }
     ensures table { λ r. ⌜ now (table .exit) ≡ filled-with «by_square» (area .w) (now (table .entry)) (block k) at ⌝ }
     ensures count { λ r. ⌜ r ≡ length (blocks (block k)) ⌝ }
 {
@@ -59,7 +73,7 @@ pub fn exchanged_block(k: Placed) -> Placed
 
 // Enters two squares, numbered on from n.
 fn enter_two(table: &mut [u32], n: u32, p: u32, q: u32, by_square: bool)
-    requires { ⌜ (n + 1 < past-32-bits) × (n + 1 < length (now table)) × (p < length (now table)) × (q < length (now table)) ⌝ }
+    requires { ⌜ (n + 1 < past-32-bits) × (cond «by_square» p n < length (now table)) × (cond «by_square» q (n + 1) < length (now table)) ⌝ }
     ensures { λ r. ⌜ now (table .exit) ≡ enter-one «by_square» (enter-one «by_square» (now (table .entry)) n p) (n + 1) q ⌝ }
 {
     enter(table, n, p, by_square);
@@ -89,7 +103,7 @@ fn rung_at(k: Placed, v: u32, area: Area) -> Rung
 
 // A block 2 wide and 2 or 3 deep, at once, up its side and down again: most of a large area's squares lie in one.
 pub fn fill_leaf(table: &mut [u32], k: Placed, area: Area, at: u32, by_square: bool) -> u64
-    requires { ⌜ Fits (area .w) (area .h) (now table) (block k) at × (k .a ≡ 2) × (2 ≤ k .b) × (k .b ≤ 3) ⌝ }
+    requires { ⌜ Fits «by_square» (area .w) (area .h) (length (now table)) (block k) at × (k .a ≡ 2) × (2 ≤ k .b) × (k .b ≤ 3) ⌝ }
     ensures table { λ r. ⌜ now (table .exit) ≡ filled-with «by_square» (area .w) (now (table .entry)) (block k) at ⌝ }
     ensures count { λ r. ⌜ r ≡ length (blocks (block k)) ⌝ }
 {
@@ -131,7 +145,7 @@ pub fn unpack_wrong(packed: u64) -> Wrong
 
 // The least wrong place so far, with square number n, which has the place p, looked at.
 fn compare(table: &[u32], n: u32, p: u32, by_square: bool, least: u64) -> u64
-    requires { ⌜ (n < length (now table)) × (p < length (now table)) ⌝ }
+    requires { ⌜ cond «by_square» p n < length (now table) ⌝ }
     ensures { λ r. ⌜ r ≡ least-one «by_square» (now (table .entry)) least n p ⌝ }
 {
     let place = division::either(by_square, p, n);
@@ -156,7 +170,7 @@ pub fn check_straight(
     by_square: bool,
     so_far: u64,
 ) -> u64
-    requires { ⌜ Fits (area .w) (area .h) (now table) (block k) at × (choice (k .a) (k .b) ≡ StraightRun) ⌝ }
+    requires { ⌜ Fits «by_square» (area .w) (area .h) (length (now table)) (block k) at × (choice (k .a) (k .b) ≡ StraightRun) ⌝ }
     ensures { λ r. ⌜ r ≡ checked «by_square» (area .w) (now (table .entry)) (block k) at «so_far» ⌝ }
 {
     let w = area.w;
@@ -170,7 +184,7 @@ pub fn check_straight(
 
 // Looks at two squares, numbered on from n.
 fn compare_two(table: &[u32], n: u32, p: u32, q: u32, by_square: bool, least: u64) -> u64
-    requires { ⌜ (n + 1 < past-32-bits) × (n + 1 < length (now table)) × (p < length (now table)) × (q < length (now table)) ⌝ }
+    requires { ⌜ (n + 1 < past-32-bits) × (cond «by_square» p n < length (now table)) × (cond «by_square» q (n + 1) < length (now table)) ⌝ }
     ensures { λ r. ⌜ r ≡ least-one «by_square» (now (table .entry)) (least-one «by_square» (now (table .entry)) least n p) (n + 1) q ⌝ }
 {
     compare(
@@ -191,7 +205,7 @@ pub fn check_leaf(
     by_square: bool,
     so_far: u64,
 ) -> u64
-    requires { ⌜ Fits (area .w) (area .h) (now table) (block k) at × (k .a ≡ 2) × (2 ≤ k .b) × (k .b ≤ 3) ⌝ }
+    requires { ⌜ Fits «by_square» (area .w) (area .h) (length (now table)) (block k) at × (k .a ≡ 2) × (2 ≤ k .b) × (k .b ≤ 3) ⌝ }
     ensures { λ r. ⌜ r ≡ checked «by_square» (area .w) (now (table .entry)) (block k) at «so_far» ⌝ }
 {
     let deep = k.b;

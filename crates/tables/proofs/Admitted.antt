@@ -1,7 +1,7 @@
 -- A call on the table of a whole area: what its guards come to, and that refusal 9 never arises.
 use mathlib.Core.Bool.{Bool, true, false, not}
 use mathlib.Core.List.{List, [], _∷_}
-use mathlib.Core.Path.{_≡_, refl, ap, subst⁻¹, _∙_}
+use mathlib.Core.Path.{_≡_, refl, ap, _∙_}
 use Prim.Native.Nat.{ℕ, _+_, _*_}
 use native.Mathlib.Omega.{arith}
 use borrow.Author.Tests.{eq-eqb, ne-eqb, eqb-true, le-ltb}
@@ -17,8 +17,9 @@ use Rattle.terms.proofs.Limits.{limits, area-passed, both-accepted}
 use Rattle.terms.proofs.Guards.{_and_, passed, answered-so, refused-first, next, untried}
 use Rattle.terms.proofs.Refusals.{refusal-some}
 use Rattle.division.specs.Division.{Block, whole, curve, blocks-holding, count}
-use Rattle.division.proofs.Blocks.{whole-inside, at-most-54}
+use Rattle.division.proofs.Blocks.{at-most-54}
 use Rattle.leaves.specs.Walk as Walks
+use Rattle.leaves.proofs.Entries.{whole-fits}
 use Rattle.tables.specs.Tables.{some-deep, table-guards, unless-refused}
 
 none-counted : {X : Type 0} (f : X → Bool) (zs : List X) → ((z : X) → f z ≡ false) → count f zs ≡ 0
@@ -70,11 +71,5 @@ unfolding unless-refused
 given values filled t e = rw (eq-eqb _ 0 (ap (λ g. g .refusal) e))
 
 -- the whole area is then a block that a walk can take
-pub whole-fits : (w h : ℕ) (t : List ℕ) → accepted w h ≡ true → length t ≡ w * h → Walks.Fits w h t (whole w h) 0
-unfolding whole
-whole-fits w h t ok size =
-    let all = limits w h ok in
-    record { w-limit = all .w-most; h-limit = all .h-most; inside = whole-inside w h (all .w-least) (all .h-least); size = size; room = omega arith }
-
-pub block-fits : (w h : ℕ) (t : List ℕ) → Walks.Fits w h t (whole w h) 0 → (k : Block) → k ≡ whole w h → Walks.Fits w h t k 0
-block-fits w h t fits k is = subst⁻¹ (λ (k : Block). Walks.Fits w h t k 0) is fits
+pub block-fits : (kind : Bool) (w h size : ℕ) → accepted w h ≡ true → size ≡ w * h → (k : Block) → k ≡ whole w h → Walks.Fits kind w h size k 0
+block-fits kind w h size ok same = let all = limits w h ok in whole-fits kind w h size (all .w-least) (all .w-most) (all .h-least) (all .h-most) (omega arith)

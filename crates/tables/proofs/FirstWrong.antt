@@ -9,12 +9,13 @@ use native.Mathlib.Omega.{arith}
 use borrow.Author.Tests.{eq-eqb, ne-eqb, eqb-true, eqb-false}
 use lib.Dec.{eqb}
 use lib.ListN.{length, getD}
-use Rattle.terms.specs.Terms.{past-32-bits, answered}
+use Rattle.terms.specs.Terms.{past-32-bits, accepted, answered}
+use Rattle.terms.proofs.Limits.{limits, squares-limit}
 use Rattle.division.specs.Division.{Block, whole}
 use Rattle.tables.specs.Tables.{judged, due-by}
 use Rattle.leaves.specs.declared.Wrong.{Wrong}
-use Rattle.leaves.specs.Walk.{wrong-packed, wrong-unpacked, checked, Fits}
-use Rattle.leaves.proofs.Entries.{either-below, squares-fit}
+use Rattle.leaves.specs.Walk.{wrong-packed, wrong-unpacked, checked}
+use Rattle.leaves.proofs.Entries.{either-below}
 use Rattle.leaves.proofs.Checks.{taken-out, over-below, over-some}
 use Rattle.tables.proofs.PlaceByPlace.{ps, ps-length, values-below, due-there, looked-for, looked-below, looked-at, due-length}
 
@@ -88,7 +89,7 @@ module _ (w h : ℕ) (a : 1 ≤ w) (b : 1 ≤ h) (limit : w * h < past-32-bits) 
   small i l =
       let j = looked-for w h a b kind i in
       let both = values-below w h a b j (looked-below w h a b kind i l) (0 + j) (zero-add j) in
-      let under = either-below (getD (ps w h) j 0) (0 + j) (w * h) kind (both .1) (both .0) in
+      let under = either-below (getD (ps w h) j 0) (0 + j) (w * h) kind (both .1) (λ e. both .0) in
       let is = value-at i l in
       omega arith
 
@@ -106,7 +107,7 @@ module _ (w h : ℕ) (a : 1 ≤ w) (b : 1 ≤ h) (limit : w * h < past-32-bits) 
       let i = cond kind (getD (ps w h) j 0) (0 + j) in
       let both = values-below w h a b j b′ (0 + j) (zero-add j) in
       subst (λ (v : ℕ). P (wrong-packed i v)) (value j b′)
-      (wrong i (either-below (0 + j) (getD (ps w h) j 0) (w * h) kind (both .0) (both .1)) (λ s. other (s ∙ value j b′))))
+      (wrong i (either-below (0 + j) (getD (ps w h) j 0) (w * h) kind (both .0) (λ e. both .1)) (λ s. other (s ∙ value j b′))))
 
   whole-checked : judged 0 due t ≡ verdict (w * h) least
   whole-checked = first-wrong due t (w * h) (due-length w h a b kind) size small least below some
@@ -116,15 +117,15 @@ pub record Verdict (n none least : ℕ) (due : List ℕ) : Type 0 where
   pub none-is : none ≡ wrong-packed n 0
   pub is : verdict n least ≡ due
 
-pub verdict-is : (w h : ℕ) (kind : Bool) (t : List ℕ) → Fits w h t (whole w h) 0 → {k : Block} → k ≡ whole w h → {none : ℕ} → none ≡ wrong-packed (w * h) 0
-    → {least : ℕ} → least ≡ checked kind w t k 0 none → Verdict (w * h) none least (judged 0 (due-by kind w h) t)
+pub verdict-is : (w h : ℕ) (kind : Bool) (t : List ℕ) → accepted w h ≡ true → length t ≡ w * h → {k : Block} → k ≡ whole w h
+    → {none : ℕ} → none ≡ wrong-packed (w * h) 0 → {least : ℕ} → least ≡ checked kind w t k 0 none → Verdict (w * h) none least (judged 0 (due-by kind w h) t)
 unfolding whole
-verdict-is w h kind t fits is none-is least-is =
-    let sides = fits .inside .sized in
+verdict-is w h kind t ok size is none-is least-is =
+    let all = limits w h ok in
     record {
       none-is = none-is;
       is = sym
-          (whole-checked w h (sides .run) (sides .side) (squares-fit fits) kind t (fits .size)
+          (whole-checked w h (all .w-least) (all .h-least) (squares-limit w h ok) kind t size
           ∙ ap (verdict (w * h)) (sym (least-is ∙ ap₂ (λ j none. checked kind w t j 0 none) is none-is)));
     }
 

@@ -1,14 +1,13 @@
 // Filling and checking tables for a whole area.
-use division::Placed;
 use terms::Admission;
 use terms::Area;
 use terms::Refusal;
+ghost use mathlib.Core.Bool.{true};
 ghost use mathlib.Core.Path.{_≡_};
-ghost use Rattle.division.specs.Division.{whole};
-ghost use Rattle.division.specs.Forms.{block};
-ghost use Rattle.terms.specs.Terms.{answered};
+ghost use Prim.Native.Nat.{_*_};
+ghost use lib.ListN.{length};
+ghost use Rattle.terms.specs.Terms.{accepted, answered};
 ghost use Rattle.terms.specs.Guards.{admitted};
-ghost use Rattle.leaves.specs.Walk.{Fits};
 ghost use Rattle.tables.specs.Tables.{table-guards, judged, by-number, by-square, unless-refused, due-by, fill, fill-figures};
 ghost use Rattle.tables.specs.Tables.{check, check-figures, fill-at, filled-at, check-at};
 
@@ -23,20 +22,6 @@ pub enum CheckAnswer {
     Right,
     Wrong { place: u32, due: u32 },
     Refused(Refusal),
-}
-
-// The whole area as a block.
-fn whole_block(area: Area) -> Placed
-    ensures { λ r. ⌜ block r ≡ whole (area .w) (area .h) ⌝ }
-{
-    Placed {
-        along: 0,
-        across: 0,
-        turned: false,
-        back: false,
-        a: area.w,
-        b: area.h,
-    }
 }
 
 // The area, and then the length of its table, before any place of that is looked at. Refusal 9 never comes, and is not tried.
@@ -62,7 +47,7 @@ fn fill_whole(area: Area, table: &mut [u32], by_square: bool) -> FillAnswer
     match admit(area, table.len()) {
         Admission::Refused(r) => FillAnswer::Refused(r),
         Admission::Granted => {
-            let blocks = fills::fill_block(table, whole_block(area), area, 0, by_square);
+            let blocks = fills::fill_block(table, leaves::whole_block(area), area, 0, by_square);
             FillAnswer::Filled { blocks: blocks }
         }
     }
@@ -86,11 +71,11 @@ pub fn fill_by_square(area: Area, table: &mut [u32]) -> FillAnswer
 
 // The verdict on a table that fits its area. A wrong place w·h, which there is not, means none.
 fn check_fitting(area: Area, table: &[u32], by_square: bool) -> CheckAnswer
-    requires { ⌜ Fits (area .w) (area .h) (now table) (whole (area .w) (area .h)) 0 ⌝ }
+    requires { ⌜ (accepted (area .w) (area .h) ≡ true) × (length (now table) ≡ area .w * area .h) ⌝ }
     ensures { λ r. ⌜ check-figures r ≡ answered (judged 0 (due-by «by_square» (area .w) (area .h)) (now (table .entry))) ⌝ }
 {
     let none = leaves::pack_wrong(area.w * area.h, 0);
-    let least = checks::check_block(table, whole_block(area), area, 0, by_square, none);
+    let least = checks::check_block(table, leaves::whole_block(area), area, 0, by_square, none);
     if least == none {
         return CheckAnswer::Right;
     }

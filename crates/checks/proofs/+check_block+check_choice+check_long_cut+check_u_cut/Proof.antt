@@ -286,8 +286,8 @@ check-long-cut-holds-again-requires t c κs =
     let told = c .before in
     let first = told .before .before in
     let (far, near, halved, start) = long-way first in
-    second-asks (start .pre) (halved .even-half .ensures) (start .args .by-square) (near .long-part .result) (far .long-part2 .result)
-    (near .long-part .ensures) (far .long-part2 .ensures) (start .args .so-far) (first .check-block .ensures)
+    second-asks (start .args .table .now) (start .pre) (halved .even-half .ensures) (start .args .by-square) (near .long-part .result)
+    (far .long-part2 .result) (near .long-part .ensures) (far .long-part2 .ensures) (start .args .so-far) (first .check-block .ensures)
     (told .comparable .ensures) (c .if1 .taken)
 
 check-long-cut-returns : (t : ℕ) → check-long-cut-lts.Need-returns (check-long-cut-calls t) (check-long-cut-at t) check-long-cut.Post
@@ -299,8 +299,8 @@ check-long-cut-returns t c =
     let (far, near, halved, start) = long-way first in
     long-steps (start .pre) (halved .even-half .ensures) (least-one (start .args .by-square) (start .args .table .now)) (start .args .so-far)
     (near .long-part .ensures) (far .long-part2 .ensures) (first .check-block .ensures)
-    (second-stands (start .pre) (halved .even-half .ensures) (start .args .by-square) (near .long-part .result) (far .long-part2 .result)
-    (near .long-part .ensures) (far .long-part2 .ensures) (start .args .so-far) (first .check-block .ensures)
+    (second-stands (start .args .table .now) (start .pre) (halved .even-half .ensures) (start .args .by-square) (near .long-part .result)
+    (far .long-part2 .result) (near .long-part .ensures) (far .long-part2 .ensures) (start .args .so-far) (first .check-block .ensures)
     (told .comparable .ensures) (asked .if1 .taken) (held .holds-again .ensures .0 (c .if2 .taken)))
 
 check-long-cut-check-block-requires-2 :
@@ -367,8 +367,8 @@ check-u-cut-holds-again-requires t c κs =
     let told = c .before in
     let second = told .before .before in
     let (along, first, down, up, halved, start) = u-way second in
-    c-asks (start .pre) (halved .even-half .ensures) (start .args .by-square) (up .part-a .result) (along .part-b .result) (down .part-c .result)
-    (up .part-a .ensures) (down .part-c .ensures) (start .args .so-far) (first .check-block .ensures) (second .check-block2 .ensures)
+    c-asks (start .args .table .now) (start .pre) (halved .even-half .ensures) (start .args .by-square) (up .part-a .result) (along .part-b .result)
+    (down .part-c .result) (up .part-a .ensures) (down .part-c .ensures) (start .args .so-far) (first .check-block .ensures) (second .check-block2 .ensures)
     (told .comparable .ensures) (c .if1 .taken)
 
 check-u-cut-returns : (t : ℕ) → check-u-cut-lts.Need-returns (check-u-cut-calls t) (check-u-cut-at t) check-u-cut.Post
@@ -380,8 +380,8 @@ check-u-cut-returns t c =
     let (along, first, down, up, halved, start) = u-way second in
     u-steps (start .pre) (halved .even-half .ensures) (least-one (start .args .by-square) (start .args .table .now)) (start .args .so-far)
     (up .part-a .ensures) (along .part-b .ensures) (down .part-c .ensures) (first .check-block .ensures) (second .check-block2 .ensures)
-    (c-stands (start .pre) (halved .even-half .ensures) (start .args .by-square) (up .part-a .result) (along .part-b .result) (down .part-c .result)
-    (up .part-a .ensures) (down .part-c .ensures) (start .args .so-far) (first .check-block .ensures) (second .check-block2 .ensures)
+    (c-stands (start .args .table .now) (start .pre) (halved .even-half .ensures) (start .args .by-square) (up .part-a .result) (along .part-b .result)
+    (down .part-c .result) (up .part-a .ensures) (down .part-c .ensures) (start .args .so-far) (first .check-block .ensures) (second .check-block2 .ensures)
     (told .comparable .ensures) (asked .if1 .taken) (held .holds-again .ensures .0 (c .if2 .taken)))
 
 check-u-cut-check-block-requires-3 : (t : ℕ) → check-u-cut-lts.Need-check-block-requires-3 (check-u-cut-calls t) (check-u-cut-at t) check-u-cut.Post

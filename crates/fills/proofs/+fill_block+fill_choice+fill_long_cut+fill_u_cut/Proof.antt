@@ -299,8 +299,9 @@ fill-long-cut-fill-again-requires t c κs =
     let kind = equal .before .before in
     let first = kind .before .before .before in
     let (far, near, halved, start) = long-way first in
-    second-asks (start .args .by-square) (kind .if1 .taken) (start .pre) (halved .even-half .ensures) (near .long-part .result) (far .long-part2 .result)
-    (near .long-part .ensures) (far .long-part2 .ensures) (first .fill-block .ensures .0) (first .fill-block .kept .0) (equal .if2 .taken)
+    second-asks (start .args .by-square) (kind .if1 .taken) (start .args .table .now) (start .pre) (halved .even-half .ensures) (near .long-part .result)
+    (far .long-part2 .result) (near .long-part .ensures) (far .long-part2 .ensures) (first .fill-block .ensures .0) (first .fill-block .kept .0)
+    (equal .if2 .taken)
 
 fill-long-cut-same-length : (t : ℕ) → fill-long-cut-lts.Need-same-length (fill-long-cut-calls t) (fill-long-cut-at t) fill-long-cut.Post
 fill-long-cut-same-length t c =
@@ -432,9 +433,9 @@ fill-u-cut-fill-again-requires t c κs =
     let kind = even .before .before in
     let down = kind .before in
     let (second, along, first, up, halved, start) = u-way down in
-    c-asks (start .args .by-square) (kind .if1 .taken) (start .pre) (halved .even-half .ensures) (up .part-a .result) (along .part-b .result)
-    (c .part-a2 .result) (down .part-c .result) (up .part-a .ensures) (c .part-a2 .ensures) (down .part-c .ensures) (first .fill-block .ensures .0)
-    (second .fill-block2 .ensures .0) (first .fill-block .kept .0) (second .fill-block2 .kept .0) (even .if2 .taken)
+    c-asks (start .args .by-square) (kind .if1 .taken) (start .args .table .now) (start .pre) (halved .even-half .ensures) (up .part-a .result)
+    (along .part-b .result) (c .part-a2 .result) (down .part-c .result) (up .part-a .ensures) (c .part-a2 .ensures) (down .part-c .ensures)
+    (first .fill-block .ensures .0) (second .fill-block2 .ensures .0) (first .fill-block .kept .0) (second .fill-block2 .kept .0) (even .if2 .taken)
 
 fill-u-cut-same-length : (t : ℕ) → fill-u-cut-lts.Need-same-length (fill-u-cut-calls t) (fill-u-cut-at t) fill-u-cut.Post
 fill-u-cut-same-length t c =

@@ -1,12 +1,11 @@
--- `leaves::compare` meets its contract: the place is n or p, and either is in the table. A right value leaves the least wrong place, and a wrong
--- one may lower it.
+-- `leaves::compare` meets its contract: the place that it looks at is asked to be in the table. A right value leaves the least wrong place, and a
+-- wrong one may lower it.
 use borrow.Author.Needs.{needs}
 use mathlib.Core.Path.{_≡_, subst⁻¹, _∙_}
 use Prim.Native.Nat.{ℕ, _<_, min}
 use native.Mathlib.Omega.{arith}
 use lib.ListN.{length}
 use Rattle.leaves.specs.Walk.{least-one}
-use Rattle.leaves.proofs.Entries.{either-below}
 use Rattle.leaves.proofs.Checks.{right-one, wrong-one}
 use Rattle.leaves.proofs.compare.Statement.{statement}
 use Rattle.leaves.proofs.compare.Tie as tie
@@ -20,7 +19,7 @@ shared-slice-read-if1 c =
     let start = place .before .before in
     let asked = start .args in
     let size = length (asked .table .now) in
-    subst⁻¹ (λ (i : ℕ). i < size) (place .either .ensures) (either-below (asked .n) (asked .p) size (asked .by-square) (start .pre .0) (start .pre .1))
+    subst⁻¹ (λ (i : ℕ). i < size) (place .either .ensures) (start .pre)
 
 returns : tie.Need-returns
 returns c =

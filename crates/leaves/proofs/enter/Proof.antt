@@ -1,9 +1,8 @@
--- `leaves::enter` meets its contract: the place is n or p, and either is in the table.
+-- `leaves::enter` meets its contract: the place that it writes is the one that is asked to be in the table.
 use borrow.Author.Needs.{needs}
 use mathlib.Core.Path.{ap₂, subst⁻¹}
 use Prim.Native.Nat.{ℕ, _<_}
 use lib.ListN.{length, set}
-use Rattle.leaves.proofs.Entries.{either-below}
 use Rattle.leaves.proofs.enter.Statement.{statement}
 use Rattle.leaves.proofs.enter.Tie as tie
 
@@ -14,8 +13,7 @@ slice-write-table : tie.Need-slice-write-table
 slice-write-table c =
     let start = c .before .before .before in
     let table = start .args .table .now in
-    subst⁻¹ (λ (i : ℕ). i < length table) (c .before .either .ensures)
-    (either-below (start .args .n) (start .args .p) (length table) (start .args .by-square) (start .pre .0) (start .pre .1))
+    subst⁻¹ (λ (i : ℕ). i < length table) (c .before .either .ensures) (start .pre)
 
 returns : tie.Need-returns
 returns c = ap₂ (λ i v. set (c .before .before .before .args .table .now) i v) (c .before .either .ensures) (c .either2 .ensures)

@@ -1,7 +1,7 @@
 -- `tables::check_fitting` meets its contract: what the least wrong place of the walk over the whole area says.
 use borrow.Author.Needs.{needs}
 use Prim.Native.Nat.{_*_}
-use Rattle.leaves.proofs.Entries.{squares-fit}
+use Rattle.terms.proofs.Limits.{squares-limit}
 use Rattle.tables.proofs.Admitted.{block-fits}
 use Rattle.tables.specs.Tables.{judged, due-by}
 use Rattle.tables.proofs.FirstWrong.{Verdict, verdict-is, right-is, wrong-is}
@@ -9,12 +9,12 @@ use Rattle.tables.proofs.check_fitting.Statement.{statement}
 use Rattle.tables.proofs.check_fitting.Tie as tie
 
 mul-pack-wrong : tie.Need-mul-pack-wrong
-mul-pack-wrong c = record { fits = squares-fit (c .before .before .pre) }
+mul-pack-wrong c = record { fits = squares-limit _ _ (c .before .before .pre .0) }
 
 check-block-requires : tie.Need-check-block-requires
 check-block-requires c κs =
     let start = c .before .before .before .before in
-    block-fits (start .args .area .w) (start .args .area .h) (start .args .table .now) (start .pre) _ (c .whole-block .ensures)
+    block-fits (start .args .by-square) (start .args .area .w) (start .args .area .h) _ (start .pre .0) (start .pre .1) _ (c .whole-block .ensures)
 
 -- the walk's result, as a verdict
 found : (checked : tie.After-check-block) →
@@ -26,8 +26,8 @@ found checked =
     let block = checked .before in
     let start = block .before .before .before .before in
     let asked = start .args in
-    verdict-is (asked .area .w) (asked .area .h) (asked .by-square) (asked .table .now) (start .pre) (block .whole-block .ensures)
-    (block .before .pack-wrong .ensures) (checked .check-block .ensures)
+    verdict-is (asked .area .w) (asked .area .h) (asked .by-square) (asked .table .now) (start .pre .0) (start .pre .1)
+    (block .whole-block .ensures) (block .before .pack-wrong .ensures) (checked .check-block .ensures)
 
 returns : tie.Need-returns
 returns c = right-is (found (c .before)) (c .if1 .taken)

@@ -2,7 +2,7 @@
 use borrow.Author.Needs.{needs}
 use mathlib.Core.Path.{sym, _∙_}
 use Rattle.tables.specs.Tables.{judged, due-by, check}
-use Rattle.tables.proofs.Admitted.{table-refused, table-granted, taken, whole-fits}
+use Rattle.tables.proofs.Admitted.{table-refused, table-granted, taken}
 use Rattle.tables.proofs.check_whole.Statement.{statement}
 use Rattle.tables.proofs.check_whole.Tie as tie
 
@@ -10,8 +10,7 @@ check-fitting-requires : tie.Need-check-fitting-requires
 check-fitting-requires c κs =
     let tried = c .before .before in
     let start = tried .before .before in
-    let fits = table-granted (start .args .area .w) (start .args .area .h) _ (sym (tried .admit .ensures) ∙ c .enum-told .given .1) in
-    whole-fits _ _ _ (fits .0) (fits .1)
+    table-granted (start .args .area .w) (start .args .area .h) _ (sym (tried .admit .ensures) ∙ c .enum-told .given .1)
 
 returns : tie.Need-returns
 unfolding check

@@ -8,7 +8,7 @@ use Rattle.terms.proofs.Limits.{limits}
 use Rattle.division.specs.Division.{whole, blocks}
 use Rattle.leaves.specs.Walk.{filled-with}
 use Rattle.tables.specs.Tables.{fill}
-use Rattle.tables.proofs.Admitted.{table-refused, table-granted, taken, kept, given, whole-fits, block-fits}
+use Rattle.tables.proofs.Admitted.{table-refused, table-granted, taken, kept, given, block-fits}
 use Rattle.tables.proofs.PlaceByPlace.{due-table}
 use Rattle.tables.proofs.fill_whole.Statement.{statement}
 use Rattle.tables.proofs.fill_whole.Tie as tie
@@ -18,7 +18,7 @@ fill-block-requires c κs =
     let told = c .before .before in
     let start = told .before .before .before .before in
     let fits = table-granted (start .args .area .w) (start .args .area .h) _ (sym (told .before .before .admit .ensures) ∙ told .enum-told .given .1) in
-    block-fits (start .args .area .w) (start .args .area .h) (start .args .table .now) (whole-fits _ _ _ (fits .0) (fits .1)) _ (c .whole-block .ensures)
+    block-fits (start .args .by-square) (start .args .area .w) (start .args .area .h) _ (fits .0) (fits .1) _ (c .whole-block .ensures)
 
 returns : tie.Need-returns
 unfolding fill

@@ -1,8 +1,8 @@
--- `tables::whole_block` meets its contract: the area's block is its definition.
+-- `leaves::whole_block` meets its contract: the area's block is its definition.
 use mathlib.Core.Path.{refl}
 use Rattle.division.specs.Division.{whole}
-use Rattle.tables.proofs.whole_block.Statement.{statement}
-use Rattle.tables.proofs.whole_block.Tie as tie
+use Rattle.leaves.proofs.whole_block.Statement.{statement}
+use Rattle.leaves.proofs.whole_block.Tie as tie
 
 returns : tie.Need-returns
 unfolding whole
