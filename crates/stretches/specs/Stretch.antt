@@ -19,10 +19,6 @@ stretched first w t k at = over-block (put-from first) t w k at
 abbrev pub Lies : (w h : ℕ) → Block → (at : ℕ) → Type 0
 Lies w h k at = Fits false w h (w * h) k at
 
--- As many squares as a block may have that is filled by itself.
-abbrev pub few : ℕ
-few = 8
-
 -- The entries of n numbers from `first` on: each is the place y·w + x of the square that has the number.
 unfoldable pub entries-from : (w h first n : ℕ) → List ℕ
 entries-from w h first n = take n (drop first (map (place w) (curve (whole w h))))

@@ -10,10 +10,7 @@ ghost use Rattle.terms.specs.Terms.{longest-side};
 ghost use Rattle.division.specs.declared.Choice.the-variants.{StraightRun, LongCut, UCut};
 ghost use Rattle.division.specs.Division.{choice};
 ghost use Rattle.division.specs.Forms.{block};
-ghost use Rattle.stretches.specs.Stretch.{stretched, Lies, few, entries-from};
-
-// So few squares are filled by themselves: cutting such a block further takes longer.
-const FEW: usize = 8;
+ghost use Rattle.stretches.specs.Stretch.{stretched, Lies, entries-from};
 
 // How many of n numbers from `at` on lie below a bound.
 fn numbers_below(bound: usize, at: u32, n: u32) -> u32
@@ -44,21 +41,6 @@ fn put_straight(out: &mut [u32], first: u32, k: Placed, area: Area, at: u32)
     }
 }
 
-// A block of few squares: filled by itself, and of its places those that the stretch has are put in.
-fn put_small(out: &mut [u32], first: u32, k: Placed, area: Area, at: u32)
-    requires { ⌜ Lies (area .w) (area .h) (block k) at × (k .a * k .b ≤ few) ⌝ }
-    ensures { λ r. ⌜ now (out .exit) ≡ stretched first (area .w) (now (out .entry)) (block k) at ⌝ }
-{
-    let mut places: [u32; FEW] = [0; FEW];
-    fills::fill_block(&mut places, k, area, 0, false);
-    let n = k.a * k.b;
-    let skip = numbers_below(first as usize, at, n);
-    let end = numbers_below(first as usize + out.len(), at, n);
-    for i in skip..end {
-        out[(at + i - first) as usize] = places[i as usize];
-    }
-}
-
 // A block, unless it lies wholly before the stretch or behind it. One that lies wholly in it is filled, with what repeats copied. It and the two cuts call each
 // other; the block's area falls.
 fn stretch_block(out: &mut [u32], first: u32, k: Placed, area: Area, at: u32)
@@ -77,10 +59,6 @@ fn stretch_block(out: &mut [u32], first: u32, k: Placed, area: Area, at: u32)
             fills::fill_block(out, k, area, at - first, false);
             return;
         }
-    }
-    if n as usize <= FEW {
-        put_small(out, first, k, area, at);
-        return;
     }
     let case = division::choose(k.a, k.b);
     match case {

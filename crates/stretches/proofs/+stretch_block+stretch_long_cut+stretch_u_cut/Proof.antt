@@ -1,7 +1,7 @@
 -- The three functions of a stretch's walk meet their contracts, by the laws of `PartByPart` and `Stretches`: the parts' squares in order are the block's, and a
 -- block that is left out or filled leaves what the walk over it would. The measure is three times the block's area, plus 2 for `stretch_block`.
 use mathlib.Core.Path.{refl, sym, _∙_}
-use Prim.Native.Nat.{ℕ, _+_, _-_, _*_, _<_}
+use Prim.Native.Nat.{ℕ, _+_, _*_, _<_}
 use native.Mathlib.Omega.{arith}
 use borrow.Author.Needs.{needs}
 use Rattle.division.proofs.WithinLimits.{a-limit, b-limit}
@@ -29,7 +29,6 @@ use Rattle.division.proofs.part_b.Reads as part-b-reads
 use Rattle.division.proofs.part_c.Reads as part-c-reads
 use Rattle.fills.proofs.fill_block.Reads as fill-block-reads
 use Rattle.leaves.proofs.exchanged_block.Reads as exchanged-block-reads
-use Rattle.stretches.proofs.put_small.Reads as put-small-reads
 use Rattle.stretches.proofs.put_straight.Reads as put-straight-reads
 use Rattle.stretches.proofs.+stretch_block+stretch_long_cut+stretch_u_cut.{statement}
 use Rattle.stretches.proofs.+stretch_block+stretch_long_cut+stretch_u_cut.Tie.{close}
@@ -67,8 +66,6 @@ abbrev stretch-block-calls : ℕ → stretch-block-lts.Claims
 stretch-block-calls t = (
   fill-block-reads.Asked,
   fill-block-reads.Learnt,
-  put-small-reads.Asked,
-  put-small-reads.Learnt,
   choose-reads.Asked,
   choose-reads.Learnt,
   put-straight-reads.Asked,
@@ -119,7 +116,7 @@ U Stop t = Stop (stretch-u-cut-calls t) (stretch-u-cut-at t) stretch-u-cut.Post
 
 -- the entry of `stretch-block`, from the choice back
 abbrev from-choice : {t : ℕ} → Block stretch-block-lts.After-choose t → Block stretch-block-lts.Start t
-from-choice chosen = chosen .before .before .before .before .before .before .before
+from-choice chosen = chosen .before .before .before .before .before .before
 
 -- the stops on the way to the last part: of a long cut from its second part, and of a U cut from C, back
 abbrev long-way : {t : ℕ} → Long stretch-long-cut-lts.After-long-part2 t
@@ -146,7 +143,7 @@ stretch-block-mul-n : (t : ℕ) → Block stretch-block-lts.Need-mul-n t
 stretch-block-mul-n t c = record { fits = numbers-fit (c .before .before .pre .1) .0 }
 
 stretch-block-add-if1 : (t : ℕ) → Block stretch-block-lts.Need-add-if1 t
-stretch-block-add-if1 t c = record { fits = numbers-fit (c .before .before .pre .1) .1 }
+stretch-block-add-if1 t c = let fit = numbers-fit (c .before .before .pre .1) in record { fits = omega arith }
 
 stretch-block-returns : (t : ℕ) → Block stretch-block-lts.Need-returns t
 stretch-block-returns t c =
@@ -174,7 +171,8 @@ stretch-block-fill-block-requires : (t : ℕ) → Block stretch-block-lts.Need-f
 stretch-block-fill-block-requires t c κs =
     let tests = c .before in
     let start = tests .before .before .before .before .before .before in
-    fits-at (start .pre .1) (start .args .at - start .args .first) _ (omega arith) (tests .if4 .taken)
+    let room = tests .if4 .taken in
+    fits-at (start .pre .1) _ _ (omega arith) (omega arith)
 
 stretch-block-same-length : (t : ℕ) → Block stretch-block-lts.Need-same-length t
 stretch-block-same-length t c = c .before .before .fill-block .kept .0
@@ -186,23 +184,9 @@ stretch-block-returns-3 t c =
     let start = early .before .before .before .before .before in
     filled-stretch (start .pre .1) (start .args .first) (start .args .out .now) (early .if3 .taken) (filled .fill-block .ensures .0)
 
-stretch-block-cast-if5 : (t : ℕ) → Block stretch-block-lts.Need-cast-if5 t
-stretch-block-cast-if5 t c = let fit = numbers-fit (c .before .before .before .before .before .pre .1) in record { fits = omega arith }
-
-stretch-block-put-small-requires : (t : ℕ) → Block stretch-block-lts.Need-put-small-requires t
-stretch-block-put-small-requires t c κs =
-    let test = c .before in
-    (test .before .before .before .before .before .before .pre .1, test .if5 .taken)
-
-stretch-block-same-length-2 : (t : ℕ) → Block stretch-block-lts.Need-same-length-2 t
-stretch-block-same-length-2 t c = c .before .before .put-small .kept .0
-
-stretch-block-returns-4 : (t : ℕ) → Block stretch-block-lts.Need-returns-4 t
-stretch-block-returns-4 t c = c .before .before .put-small .ensures
-
 stretch-block-choose-requires : (t : ℕ) → Block stretch-block-lts.Need-choose-requires t
 stretch-block-choose-requires t c κs =
-    let start = c .before .before .before .before .before .before in
+    let start = c .before .before .before .before .before in
     (a-limit _ (largest (start .pre .1)), b-limit _ (largest (start .pre .1)))
 
 stretch-block-enum-told : (t : ℕ) → Block stretch-block-lts.Need-enum-told t
@@ -249,17 +233,17 @@ stretch-block-stretch-u-cut-requires t c κs =
     let measure = start .pre .0 in
     (omega arith, (start .pre .1, sym (chosen .choose .ensures) ∙ told .enum-told4 .given .1))
 
+stretch-block-same-length-2 : (t : ℕ) → Block stretch-block-lts.Need-same-length-2 t
+stretch-block-same-length-2 t c = c .before .before .put-straight .kept .0
+
+stretch-block-returns-4 : (t : ℕ) → Block stretch-block-lts.Need-returns-4 t
+stretch-block-returns-4 t c = c .before .before .put-straight .ensures
+
 stretch-block-same-length-3 : (t : ℕ) → Block stretch-block-lts.Need-same-length-3 t
-stretch-block-same-length-3 t c = c .before .before .put-straight .kept .0
+stretch-block-same-length-3 t c = c .before .before .put-straight2 .kept .0
 
 stretch-block-returns-5 : (t : ℕ) → Block stretch-block-lts.Need-returns-5 t
-stretch-block-returns-5 t c = c .before .before .put-straight .ensures
-
-stretch-block-same-length-4 : (t : ℕ) → Block stretch-block-lts.Need-same-length-4 t
-stretch-block-same-length-4 t c = c .before .before .put-straight2 .kept .0
-
-stretch-block-returns-6 : (t : ℕ) → Block stretch-block-lts.Need-returns-6 t
-stretch-block-returns-6 t c =
+stretch-block-returns-5 t c =
     let put = c .before .before in
     let exchanged = put .before in
     let told = exchanged .before .before in
@@ -270,17 +254,17 @@ stretch-block-returns-6 t c =
     ∙ side-over (start .pre .1) (sym (chosen .choose .ensures) ∙ told .enum-told2 .given .1) (put-from (start .args .first)) (start .args .out .now)
     (side .result) (side .ensures)
 
+stretch-block-same-length-4 : (t : ℕ) → Block stretch-block-lts.Need-same-length-4 t
+stretch-block-same-length-4 t c = c .before .before .stretch-long-cut .kept .0
+
+stretch-block-returns-6 : (t : ℕ) → Block stretch-block-lts.Need-returns-6 t
+stretch-block-returns-6 t c = c .before .before .stretch-long-cut .ensures
+
 stretch-block-same-length-5 : (t : ℕ) → Block stretch-block-lts.Need-same-length-5 t
-stretch-block-same-length-5 t c = c .before .before .stretch-long-cut .kept .0
+stretch-block-same-length-5 t c = c .before .before .stretch-u-cut .kept .0
 
 stretch-block-returns-7 : (t : ℕ) → Block stretch-block-lts.Need-returns-7 t
-stretch-block-returns-7 t c = c .before .before .stretch-long-cut .ensures
-
-stretch-block-same-length-6 : (t : ℕ) → Block stretch-block-lts.Need-same-length-6 t
-stretch-block-same-length-6 t c = c .before .before .stretch-u-cut .kept .0
-
-stretch-block-returns-8 : (t : ℕ) → Block stretch-block-lts.Need-returns-8 t
-stretch-block-returns-8 t c = c .before .before .stretch-u-cut .ensures
+stretch-block-returns-7 t c = c .before .before .stretch-u-cut .ensures
 
 stretch-long-cut-even-half-requires : (t : ℕ) → Long stretch-long-cut-lts.Need-even-half-requires t
 stretch-long-cut-even-half-requires t c κs = a-limit _ (part-asks (c .before .pre) .0)
@@ -406,10 +390,6 @@ pub +stretch-block+stretch-long-cut+stretch-u-cut-spec : {M : Type 1} → statem
     (stretch-block-fill-block-requires t)
     (stretch-block-same-length t)
     (stretch-block-returns-3 t)
-    (stretch-block-cast-if5 t)
-    (stretch-block-put-small-requires t)
-    (stretch-block-same-length-2 t)
-    (stretch-block-returns-4 t)
     (stretch-block-choose-requires t)
     (stretch-block-enum-told t)
     (stretch-block-put-straight-requires t)
@@ -420,14 +400,14 @@ pub +stretch-block+stretch-long-cut+stretch-u-cut-spec : {M : Type 1} → statem
     (stretch-block-stretch-long-cut-requires t)
     (stretch-block-enum-told-4 t)
     (stretch-block-stretch-u-cut-requires t)
+    (stretch-block-same-length-2 t)
+    (stretch-block-returns-4 t)
     (stretch-block-same-length-3 t)
     (stretch-block-returns-5 t)
     (stretch-block-same-length-4 t)
     (stretch-block-returns-6 t)
     (stretch-block-same-length-5 t)
-    (stretch-block-returns-7 t)
-    (stretch-block-same-length-6 t)
-    (stretch-block-returns-8 t))
+    (stretch-block-returns-7 t))
     (λ t. stretch-long-cut-lts.spec (stretch-long-cut-calls t)
     (stretch-long-cut-at t)
     stretch-long-cut.Post
