@@ -1,5 +1,5 @@
--- The four functions of a check meet their contracts, by the laws of `Parts` and `Repeats`: the parts' looks in order, walked or compared, are the block's.
--- The measure is three times the block's area, plus 0 for a cut, 1 for `check_choice` and 2 for `check_block`, which are three calls on one block.
+-- The four functions of a check meet their contracts, by the laws of `PartByPart` and `Repeats`: the parts' looks in order, walked or compared, are the
+-- block's. The measure is three times the block's area, plus 0 for a cut, 1 for `check_choice` and 2 for `check_block`, which are three calls on one block.
 use mathlib.Core.Path.{refl, sym, _∙_}
 use Prim.Native.Nat.{ℕ, _+_, _*_, _<_}
 use native.Mathlib.Omega.{arith}

@@ -1,5 +1,5 @@
--- The four functions of a fill meet their contracts, by the laws of `Parts`, `Counts` and `Repeats`: the parts' entries in order, walked or copied, are the
--- block's. The measure is three times the block's area, plus 0 for a cut, 1 for `fill_choice` and 2 for `fill_block`, which are three calls on one block.
+-- The four functions of a fill meet their contracts, by the laws of `PartByPart`, `Counts` and `Repeats`: the parts' entries in order, walked or copied, are
+-- the block's. The measure is three times the block's area, plus 0 for a cut, 1 for `fill_choice` and 2 for `fill_block`, which are three calls on one block.
 use mathlib.Core.Path.{sym, ap, _∙_}
 use Prim.Native.Nat.{ℕ, _+_, _*_, _<_}
 use native.Mathlib.Omega.{arith}
