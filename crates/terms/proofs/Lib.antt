@@ -4,4 +4,5 @@ pub mod Limits
 pub mod Signs
 pub mod Meanings
 pub mod Places
+pub mod Telling
 pub mod OneAnswer

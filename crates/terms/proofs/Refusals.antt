@@ -10,14 +10,14 @@ use lib.ListN.{length, getD}
 use native.Mathlib.Omega.{arith}
 use Rattle.terms.specs.declared.Refusal.{Refusal}
 use Rattle.terms.specs.declared.Refusal.the-variants.{AreaLimit, SquareOutside, NumberOutside, TableLength, NotANumber, WrongShape, NoArea, LongLine}
-use Rattle.terms.specs.declared.Refusal.the-variants.{TooDeep, CornersCrossed, NoRoom, OriginLimit, TooManySquares}
+use Rattle.terms.specs.declared.Refusal.the-variants.{TooDeep, CornersCrossed, NoRoom, OriginLimit, TooManySquares, BadCheck, Departure}
 use Rattle.terms.specs.Terms.{refusal-number, Figures, SignedFigures}
 
 -- the refusals, and which of them has a number; this one law grows with them
 refusals : List Refusal
 refusals =
     AreaLimit ∷ SquareOutside ∷ NumberOutside ∷ TableLength ∷ NotANumber ∷ WrongShape ∷ NoArea ∷ LongLine ∷ TooDeep ∷ CornersCrossed ∷ NoRoom
-    ∷ OriginLimit ∷ TooManySquares ∷ []
+    ∷ OriginLimit ∷ TooManySquares ∷ BadCheck ∷ Departure ∷ []
 
 among : List Refusal → ℕ → List Refusal
 among [] n = []
@@ -41,6 +41,8 @@ numbered-back CornersCrossed = refl
 numbered-back NoRoom = refl
 numbered-back OriginLimit = refl
 numbered-back TooManySquares = refl
+numbered-back BadCheck = refl
+numbered-back Departure = refl
 
 -- the refusal of a number, so that no two have one, and none has 0
 pub named : ℕ → Refusal

@@ -1,3 +1,4 @@
 pub mod Terms
 pub mod Guards
 pub mod Comparing
+pub mod Telling

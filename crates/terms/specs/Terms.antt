@@ -10,7 +10,7 @@ use lib.Signed.{leZ}
 use Rattle.terms.specs.declared.Area.{Area}
 use Rattle.terms.specs.declared.Refusal.{Refusal}
 use Rattle.terms.specs.declared.Refusal.the-variants.{AreaLimit, SquareOutside, NumberOutside, TableLength, NotANumber, WrongShape, NoArea, LongLine}
-use Rattle.terms.specs.declared.Refusal.the-variants.{TooDeep, CornersCrossed, NoRoom, OriginLimit, TooManySquares}
+use Rattle.terms.specs.declared.Refusal.the-variants.{TooDeep, CornersCrossed, NoRoom, OriginLimit, TooManySquares, BadCheck, Departure}
 
 -- "An area has a width w and a height h, each from 1 to 65,535."
 abbrev pub longest-side : ℕ
@@ -61,6 +61,10 @@ refusal-number NoRoom = 11
 refusal-number OriginLimit = 12
 -- order 7: "An area of more than 16,777,216 squares"
 refusal-number TooManySquares = 13
+-- order 8: "the first whole block whose check is bad"; it tells that block's index
+refusal-number BadCheck = 14
+-- order 8: "any other departure from this layout"
+refusal-number Departure = 15
 
 -- So many blocks may hold a square that a call needs.
 abbrev pub most-blocks : ℕ

@@ -46,6 +46,8 @@ pub enum Refusal {
     NoRoom,
     OriginLimit,
     TooManySquares,
+    BadCheck,
+    Departure,
 }
 
 // Whether a call goes on, or why it does not.
@@ -184,5 +186,7 @@ pub fn refusal_number(r: Refusal) -> u32
         Refusal::NoRoom => 11,
         Refusal::OriginLimit => 12,
         Refusal::TooManySquares => 13,
+        Refusal::BadCheck => 14,
+        Refusal::Departure => 15,
     }
 }
