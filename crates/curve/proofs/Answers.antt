@@ -14,10 +14,10 @@ use Rattle.terms.specs.declared.Area.{Area}
 use Rattle.terms.specs.declared.Admission.the-variants.{Granted, Refused}
 use Rattle.terms.specs.declared.Refusal.{Refusal}
 use Rattle.terms.specs.declared.Refusal.the-variants.{TooDeep}
-use Rattle.terms.specs.Terms.{longest-side, most-blocks, accepted, offset-accepted, grid-accepted, distance-of, below}
+use Rattle.terms.specs.Terms.{longest-side, most-blocks, accepted, offset-accepted, grid-accepted, distance-of, below, Limits}
 use Rattle.terms.specs.Terms.{SignedFigures, refused, in-signs, signed}
 use Rattle.terms.specs.Guards.{_else_, admitted, guarded, first}
-use Rattle.terms.proofs.Limits.{Limits, limits, squares-limit, all-accepted, grid-passed}
+use Rattle.terms.proofs.Limits.{limits, squares-limit, all-accepted, grid-passed}
 use Rattle.terms.proofs.Refusals.{refusal-not-0}
 use Rattle.terms.proofs.Guards.{passed, refused-first, granted-first}
 use Rattle.terms.proofs.Places.{below-by}

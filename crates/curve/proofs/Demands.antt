@@ -11,10 +11,10 @@ use lib.Dec.{ltb, eqb}
 use lib.IntN.{ℤ, pos, _+ℤ_, _-ℤ_}
 use lib.Signed.{mag}
 use Rattle.terms.specs.declared.Area.{Area}
-use Rattle.terms.specs.Terms.{grid-accepted, distance-of, below}
+use Rattle.terms.specs.Terms.{grid-accepted, distance-of, below, Limits}
 use Rattle.terms.specs.Terms.{Figures, SignedFigures, answered, in-signs, signed}
 use Rattle.terms.specs.Guards.{guarded}
-use Rattle.terms.proofs.Limits.{Limits, limits, all-accepted, grid-guards-passed, grid-passed}
+use Rattle.terms.proofs.Limits.{limits, all-accepted, grid-guards-passed, grid-passed}
 use Rattle.terms.proofs.Guards.{_and_, Passed, answered-exactly, answered-so}
 use Rattle.terms.proofs.Refusals.{figure, signed-figure}
 use Rattle.terms.proofs.Signs.{added-off}

@@ -11,8 +11,8 @@ use lib.Dec.{eqb}
 use lib.IntN.{ℤ, pos, _+ℤ_, _-ℤ_}
 use lib.Signed.{mag}
 use Rattle.terms.specs.declared.Area.{Area}
-use Rattle.terms.specs.Terms.{grid-accepted, SignedFigures, in-signs}
-use Rattle.terms.proofs.Limits.{Limits, limits, grid-guards-passed, grid-passed}
+use Rattle.terms.specs.Terms.{grid-accepted, SignedFigures, in-signs, Limits}
+use Rattle.terms.proofs.Limits.{limits, grid-guards-passed, grid-passed}
 use Rattle.terms.proofs.Guards.{_and_, answered-so}
 use Rattle.terms.proofs.Refusals.{signed-figure}
 use Rattle.terms.proofs.Signs.{added-off}

@@ -13,8 +13,8 @@ use lib.ListN.{length, getD, take, drop, length-take, length-drop}
 use lib.Seq.{take-length, getD-take, getD-drop}
 use lib.IntN.{ℤ, pos, negℤ, subℕ, _+ℤ_, _-ℤ_, +ℤ-assoc, negℤ-+ℤ}
 use Rattle.terms.specs.declared.Area.{Area}
-use Rattle.terms.specs.Terms.{grid-accepted, SignedFigures}
-use Rattle.terms.proofs.Limits.{Limits, limits, grid-passed}
+use Rattle.terms.specs.Terms.{grid-accepted, SignedFigures, Limits}
+use Rattle.terms.proofs.Limits.{limits, grid-passed}
 use Rattle.terms.proofs.Signs.{added-off}
 use Rattle.division.specs.Division.{Square, square, whole, curve, one, count, square-of, blocks-holding}
 use Rattle.division.proofs.EachSquareOnce.{length-curve}

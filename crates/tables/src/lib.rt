@@ -25,7 +25,7 @@ pub enum CheckAnswer {
 }
 
 // The area, and then the length of its table, before any place of that is looked at. Refusal 9 never comes, and is not tried.
-fn admit(area: Area, places: usize) -> Admission
+pub fn admit(area: Area, places: usize) -> Admission
     ensures { λ r. ⌜ r ≡ admitted (table-guards (area .w) (area .h) places) ⌝ }
 {
     let w = area.w;

@@ -14,7 +14,7 @@ use Rattle.terms.specs.declared.Refusal.the-variants.{AreaLimit}
 use Rattle.terms.specs.declared.Admission.{Admission}
 use Rattle.terms.specs.declared.Admission.the-variants.{Granted, Refused}
 use Rattle.terms.specs.Terms.{refusal-number, Figures, answered, refused, refused-with}
-use Rattle.terms.specs.Guards.{Guard, _else_, admitted, padded, guarded, then-guard, first}
+use Rattle.terms.specs.Guards.{Guard, _else_, admitted, padded, guarded, then-guard, first, rest}
 use Rattle.terms.proofs.Refusals.{refusal-one, refusal-some}
 
 -- Facts, one for each guard of a list, as the list itself is written: they are nested pairs.
@@ -154,11 +154,6 @@ never gs r n values none e =
 abbrev pub as-admitted : Admission → (n : ℕ) → Figures → Figures
 as-admitted Granted n answer = answer
 as-admitted (Refused r) n answer = refused r n
-
-abbrev pub rest : ℕ → List Guard → List Guard
-rest zero gs = gs
-rest (suc k) [] = []
-rest (suc k) (g ∷ gs) = rest k gs
 
 abbrev none : List ℕ → Bool
 none [] = true

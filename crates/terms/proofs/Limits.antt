@@ -9,7 +9,7 @@ use lib.Dec.{leb}
 use Rattle.terms.specs.declared.Area.{Area}
 use Rattle.terms.specs.declared.Admission.the-variants.{Granted, Refused}
 use Rattle.terms.specs.declared.Refusal.{Refusal}
-use Rattle.terms.specs.Terms.{longest-side, most-squares, past-32-bits, length-accepted, lengths-accepted, squares-accepted, accepted}
+use Rattle.terms.specs.Terms.{longest-side, most-squares, past-32-bits, length-accepted, lengths-accepted, squares-accepted, accepted, Limits}
 use Rattle.terms.specs.Terms.{offset-accepted, origin-accepted, at-post, grid-accepted}
 use Rattle.terms.specs.Guards.{admitted, grid-guards}
 use Rattle.terms.proofs.Guards.{_and_, passed, all-pass}
@@ -22,13 +22,6 @@ both-accepted w h long few = rw (long, few)
 pub area-passed : (w h : ℕ) → accepted w h ≡ true → (lengths-accepted w h ≡ true) × (squares-accepted (w * h) ≡ true)
 unfolding accepted
 area-passed w h e = and-eq-true-iff (lengths-accepted w h) (squares-accepted (w * h)) .0 e
-
-pub record Limits (w h : ℕ) : Type 0 where
-  pub w-least : 1 ≤ w
-  pub w-most : w ≤ longest-side
-  pub h-least : 1 ≤ h
-  pub h-most : h ≤ longest-side
-  pub squares-most : w * h ≤ most-squares
 
 pub limits : (w h : ℕ) → accepted w h ≡ true → Limits w h
 limits w h e =

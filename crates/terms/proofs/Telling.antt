@@ -1,13 +1,16 @@
--- Tests that tell: what follows from one that says yes or no, and how a test of one thing tells of another that holds exactly if that does.
-use mathlib.Core.Bool.{Bool, true, false, not}
+-- Tests that tell: what follows from one that says yes or no, how a test of one thing tells of another, and that the comparison of two lists tells whether
+-- they are one.
+use mathlib.Core.Bool.{Bool, true, false, not, and-eq-true-iff}
+use mathlib.Core.List.{List, [], _∷_}
 use mathlib.Core.Logic.{_⊎_, inl, inr, ⊎-elim}
-use mathlib.Core.Path.{_≡_, refl, sym, subst, _∙_}
+use mathlib.Core.Path.{_≡_, refl, sym, ap₂, subst, _∙_}
 use Prim.Native.Nat.{ℕ, suc, _+_, _≤_, _<_}
 use native.Mathlib.Nat.{eq-or-lt-of-le, le-of-suc-le-suc}
 use native.Mathlib.Numerals.{add-one}
 use native.Mathlib.Omega.{arith}
 use borrow.Author.Tests.{eqb-true, eq-eqb, not-true, not-false}
 use lib.Dec.{eqb}
+use Rattle.terms.specs.Comparing.{same-numbers}
 use Rattle.terms.specs.Telling.{Tells}
 
 impossible : {P : Type 0} → false ≡ true → P
@@ -53,3 +56,28 @@ counted-more P j same more few so-far (inl right) = let one = right .1 in (omega
 counted-more P j same more few so-far (inr wrong) =
     let none = wrong .1 in
     (omega arith, tells-equal more (j + 1) (λ e. absurd (omega arith)) (λ ps. absurd (wrong .0 (ps j (omega arith)))))
+
+-- lists are the same exactly if their comparison says so
+pub same-so : (xs ys : List ℕ) → same-numbers xs ys ≡ true → xs ≡ ys
+unfolding same-numbers
+same-so [] [] e = refl
+same-so [] (y ∷ ys) e = impossible e
+same-so (x ∷ xs) [] e = impossible e
+same-so (x ∷ xs) (y ∷ ys) e =
+    let both = and-eq-true-iff (eqb x y) (same-numbers xs ys) .0 e in
+    ap₂ _∷_ (eqb-true x y (both .0)) (same-so xs ys (both .1))
+
+pub so-same : (xs : List ℕ) → same-numbers xs xs ≡ true
+unfolding same-numbers
+so-same [] = refl
+so-same (x ∷ xs) = rw (eq-eqb x x refl) (so-same xs)
+
+pub tells-same : (xs ys : List ℕ) → Tells (same-numbers xs ys) (xs ≡ ys)
+tells-same xs ys = (same-so xs ys, λ e. subst (λ (zs : List ℕ). same-numbers xs zs ≡ true) e (so-same xs))
+
+-- two tests that tell of one thing are one
+pub one-test : {P : Type 0} {r s : Bool} → Tells r P → Tells s P → r ≡ s
+one-test {r = true} {s = true} t u = refl
+one-test {r = false} {s = false} t u = refl
+one-test {r = true} {s = false} t u = sym (u .1 (t .0 refl))
+one-test {r = false} {s = true} t u = t .1 (u .0 refl)

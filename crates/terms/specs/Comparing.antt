@@ -1,5 +1,5 @@
--- Lists of numbers and figures, signed ones too, compared by tests that compute, for the tables of worked cases, and apart from the definitions that these
--- try. They render no sentence of document 01.
+-- Lists of numbers and figures, signed ones too, compared by tests that compute, for the tables of worked cases, and for definitions that ask whether a list
+-- is the right one. They render no sentence of the documents.
 use mathlib.Core.Bool.{Bool, true, false, _&&_}
 use mathlib.Core.List.{List, [], _∷_}
 use Prim.Native.Nat.{ℕ}

@@ -40,7 +40,7 @@ abbrev pub guarded : List Guard → (n : ℕ) → (values : List ℕ) → Figure
 guarded [] n values = answered values
 guarded (g ∷ gs) n values = cond (g .holds) (guarded gs n values) (refused-with (g .refusal) (padded n (g .tells)))
 
--- As the code goes through a list: one guard more, after those that were tried; and the first n guards.
+-- As the code goes through a list: one guard more, after those that were tried; the first n guards; and those after them.
 abbrev pub then-guard : Admission → Guard → Admission
 then-guard Granted g = cond (g .holds) Granted (Refused (g .refusal))
 then-guard (Refused r) g = Refused r
@@ -49,6 +49,11 @@ abbrev pub first : ℕ → List Guard → List Guard
 first zero gs = []
 first (suc n) [] = []
 first (suc n) (g ∷ gs) = g ∷ first n gs
+
+abbrev pub rest : ℕ → List Guard → List Guard
+rest zero gs = gs
+rest (suc k) [] = []
+rest (suc k) (g ∷ gs) = rest k gs
 
 -- What every list begins with, "1" and then "13, directly after 1 and before everything else"; and in "calls that ask or answer squares" 12 after them.
 abbrev pub area-guards : (w h : ℕ) → List Guard

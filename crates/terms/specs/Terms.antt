@@ -2,7 +2,7 @@
 -- Document 01, "What is bought" and "Refusal numbers", the refusals of document 02, order 2, the origin of its order 6 and the limit of its order 7.
 use mathlib.Core.Bool.{Bool, false, _&&_}
 use mathlib.Core.List.{List, [], _∷_}
-use Prim.Native.Nat.{ℕ, _*_}
+use Prim.Native.Nat.{ℕ, _*_, _≤_}
 use lib.Dec.{leb, ltb}
 use lib.IntN.{ℤ, pos, negsuc}
 use lib.ListN.{replicate}
@@ -32,6 +32,14 @@ squares-accepted n = leb n most-squares
 -- An area within both limits.
 unfoldable pub accepted : (w h : ℕ) → Bool
 accepted w h = lengths-accepted w h && squares-accepted (w * h)
+
+-- The same in numbers, for functions that ask for such an area.
+pub record Limits (w h : ℕ) : Type 0 where
+  pub w-least : 1 ≤ w
+  pub w-most : w ≤ longest-side
+  pub h-least : 1 ≤ h
+  pub h-most : h ≤ longest-side
+  pub squares-most : w * h ≤ most-squares
 
 -- The refusals' numbers, in the table's words.
 abbrev pub refusal-number : Refusal → ℕ

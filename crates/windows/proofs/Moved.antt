@@ -14,9 +14,9 @@ use lib.Signed.{_≤ℤ_}
 use Rattle.terms.specs.declared.Area.{Area}
 use Rattle.terms.specs.declared.Admission.the-variants.{Granted}
 use Rattle.terms.specs.declared.Refusal.the-variants.{SquareOutside, TooDeep, CornersCrossed, NoRoom, OriginLimit}
-use Rattle.terms.specs.Terms.{origin-accepted, at-post, grid-accepted, distance-of, Figures}
+use Rattle.terms.specs.Terms.{origin-accepted, at-post, grid-accepted, distance-of, Figures, Limits}
 use Rattle.terms.specs.Guards.{Guard, _else_, _telling_, admitted, guarded, first}
-use Rattle.terms.proofs.Limits.{Limits, limits, grid-passed, grid-guards-passed}
+use Rattle.terms.proofs.Limits.{limits, grid-passed, grid-guards-passed}
 use Rattle.terms.proofs.Guards.{_and_, alike}
 use Rattle.terms.proofs.Signs.{added-off}
 use Rattle.terms.proofs.Meanings.{at-most-is}
