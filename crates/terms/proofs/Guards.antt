@@ -1,6 +1,6 @@
 -- The law of guards, from both sides: a call is refused with r exactly if the guards before r's pass and r's fails, and answered exactly if all pass. And how
 -- the code gets there, one guard after the other.
-use mathlib.Core.Bool.{Bool, true, false, cond, _||_, _&&_}
+use mathlib.Core.Bool.{Bool, true, false, not, cond, _||_, _&&_}
 use mathlib.Core.List.{List, [], _∷_}
 use mathlib.Core.Logic.{_↔_, _⊎_, inl, inr}
 use mathlib.Core.Path.{_≡_, refl, sym, ap, ap₂, _∙_}
@@ -191,6 +191,26 @@ refused-whole (g ∷ gs) n values q r e = by (g .holds) (g .tells) q e (refused-
     by false [] q e later = ap (λ (s : Refusal). refused s n) (refusal-one (g .refusal) r e)
     by t (v ∷ vs) q e later = absurd (let z : _≡_ {A = ℕ} 0 1 = cc in omega arith)
 
+-- So of a list of which some refusals tell something: those with r tell nothing.
+abbrev pub silent-at : Refusal → List Guard → Bool
+silent-at r [] = true
+silent-at r (g ∷ gs) = (none (g .tells) || not (same (g .refusal) r)) && silent-at r gs
+
+pub refused-silent : (gs : List Guard) (n : ℕ) (values : List ℕ) (r : Refusal) → silent-at r gs ≡ true → guarded gs n values .refusal ≡ refusal-number r
+    → guarded gs n values ≡ refused r n
+refused-silent [] n values r q e = absurd (refusal-some r (sym e))
+refused-silent (g ∷ gs) n values r q e = by (g .holds) (same (g .refusal) r) (g .tells) refl q e (refused-silent gs n values r)
+  where
+    by : (t here : Bool) (told : List ℕ) → same (g .refusal) r ≡ here → (none told || not here) && silent-at r gs ≡ true
+        → cond t (guarded gs n values) (refused-with (g .refusal) (padded n told)) .refusal ≡ refusal-number r
+        → (silent-at r gs ≡ true → guarded gs n values .refusal ≡ refusal-number r → guarded gs n values ≡ refused r n)
+        → cond t (guarded gs n values) (refused-with (g .refusal) (padded n told)) ≡ refused r n
+    by true here [] is q e later = later q e
+    by true false (v ∷ vs) is q e later = later q e
+    by false here [] is q e later = ap (λ (s : Refusal). refused s n) (refusal-one (g .refusal) r e)
+    by false false (v ∷ vs) is q e later = absurd (eqb-false (refusal-number (g .refusal)) (refusal-number r) is e)
+    by t true (v ∷ vs) is q e later = absurd (let z : _≡_ {A = ℕ} 0 1 = cc in omega arith)
+
 module _ (k : ℕ) (gs : List Guard) (n : ℕ) (values : List ℕ) (q : quiet (first k gs) ≡ true) where
   pub refused-first : (r : Refusal) → admitted (first k gs) ≡ Refused r → refused r n ≡ guarded gs n values
   refused-first r e = sym (by-admission k gs n values q ∙ ap (λ (j : Admission). as-admitted j n (guarded (rest k gs) n values)) e)
@@ -216,6 +236,12 @@ abbrev pub nth : ℕ → List Guard → Guard
 nth n [] = true else AreaLimit
 nth zero (g ∷ gs) = g
 nth (suc n) (g ∷ gs) = nth n gs
+
+-- Guard k, and no other, refuses with r.
+abbrev pub alone : ℕ → Refusal → List Guard → Bool
+alone k r [] = false
+alone zero r (g ∷ gs) = same (g .refusal) r && not (stands r gs)
+alone (suc k) r (g ∷ gs) = not (same (g .refusal) r) && alone k r gs
 
 one-more : (gs : List Guard) (n : ℕ) → n < length gs → then-guard (admitted (first n gs)) (nth n gs) ≡ admitted (first (suc n) gs)
 one-more [] n l = absurd (omega arith)
@@ -247,3 +273,26 @@ untried gs n {j} l is holds = next gs n l is (by j) (λ p. sym (holds p))
     by : (j : Admission) → j ≡ then-guard j (true else (nth n gs .refusal))
     by Granted = refl
     by (Refused r) = refl
+
+-- what guard k tells where it refuses, and its refusal stands nowhere else
+pub told-at : (gs : List Guard) (k n : ℕ) (values : List ℕ) (r : Refusal) → alone k r gs ≡ true → guarded gs n values .refusal ≡ refusal-number r
+    → guarded gs n values ≡ refused-with r (padded n (nth k gs .tells))
+told-at [] k n values r a e = absurd (refusal-some r (sym e))
+told-at (g ∷ gs) zero n values r a e = by (g .holds) (same (g .refusal) r) (stands r gs) refl refl a e
+  where
+    by : (t here later : Bool) → same (g .refusal) r ≡ here → stands r gs ≡ later → here && not later ≡ true
+        → cond t (guarded gs n values) (refused-with (g .refusal) (padded n (g .tells))) .refusal ≡ refusal-number r
+        → cond t (guarded gs n values) (refused-with (g .refusal) (padded n (g .tells))) ≡ refused-with r (padded n (g .tells))
+    by true true false is l a e = absurd (never gs r n values l e)
+    by false true false is l a e = ap (λ (s : Refusal). refused-with s (padded n (g .tells))) (refusal-one (g .refusal) r e)
+    by t true true is l a e = absurd (let z : _≡_ {A = ℕ} 0 1 = cc in omega arith)
+    by t false later is l a e = absurd (let z : _≡_ {A = ℕ} 0 1 = cc in omega arith)
+told-at (g ∷ gs) (suc k) n values r a e = by (g .holds) (same (g .refusal) r) refl a e (told-at gs k n values r)
+  where
+    by : (t here : Bool) → same (g .refusal) r ≡ here → not here && alone k r gs ≡ true
+        → cond t (guarded gs n values) (refused-with (g .refusal) (padded n (g .tells))) .refusal ≡ refusal-number r
+        → (alone k r gs ≡ true → guarded gs n values .refusal ≡ refusal-number r → guarded gs n values ≡ refused-with r (padded n (nth k gs .tells)))
+        → cond t (guarded gs n values) (refused-with (g .refusal) (padded n (g .tells))) ≡ refused-with r (padded n (nth k gs .tells))
+    by true false is a e later = later a e
+    by false false is a e later = absurd (eqb-false (refusal-number (g .refusal)) (refusal-number r) is e)
+    by t true is a e later = absurd (let z : _≡_ {A = ℕ} 0 1 = cc in omega arith)
