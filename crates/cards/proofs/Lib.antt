@@ -1,2 +1,4 @@
 pub mod Fitted
 pub mod Refused
+pub mod Departures
+pub mod Promises

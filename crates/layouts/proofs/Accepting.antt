@@ -21,7 +21,7 @@ use Rattle.tables.proofs.PlaceByPlace.{ps-length, values-below, due-there, look
 use Rattle.layouts.specs.Layouts.{head, table-blocks, card-words, card-of, right-table, card, card-bytes}
 use Rattle.layouts.specs.Steps.{Room, table-word, in-use, Told, entries, Right-told, Frames, Headed}
 
-either-below : (by : Bool) {p q n : ℕ} → p < n → q < n → cond by p q < n
+pub either-below : (by : Bool) {p q n : ℕ} → p < n → q < n → cond by p q < n
 either-below true l m = l
 either-below false l m = m
 

@@ -4,3 +4,4 @@ pub mod Checks
 pub mod Sealing
 pub mod Packing
 pub mod Changed
+pub mod Small
