@@ -1,10 +1,13 @@
 // The library for programs in other languages: one thin function for each call, numbers in and numbers out. Calls that ask or answer squares take the area's
 // origin behind its lengths, and squares are signed.
 //
-// A call that answers several values takes a slice for them. It returns the refusal's number, 0 for none, and writes the values to the slice's first
-// places, 0 each where it is refused, but for the area in force that a line leaves and the number of runs that have no room. A slice that is too short is
-// left as it is, and 255 is returned, which is no refusal's number.
+// A call that answers values takes a slice for them. It returns the refusal's number, 0 for none, and writes the values to the slice's first places, 0 each
+// where it is refused, but for the area in force that a line leaves, the number of runs that have no room and the block of a bad check. A slice that is too
+// short is left as it is, and 255 is returned, which is no refusal's number.
 use boundary::SHORT;
+use cards::LengthAnswer;
+use cards::ReadAnswer;
+use cards::WriteAnswer;
 use clerk::Clerk;
 use clerk::Reply;
 use curve::FinishAnswer;
@@ -24,10 +27,12 @@ ghost use lib.ListN.{length, take, drop};
 ghost use Rattle.terms.specs.Terms.{most-blocks};
 ghost use Rattle.clerk.specs.Clerk.{said};
 ghost use Rattle.tables.specs.Tables.{fill-figures, check-figures};
+ghost use Rattle.cards.specs.Cards.{length-figures, write-figures, read-figures};
 ghost use Rattle.windows.specs.Windows.{runs-figures};
 ghost use Rattle.boundary.specs.Handling.{area-of, shown, refusal-said, state, handled-figures};
 ghost use Rattle.boundary.specs.Calls.{number-to-square-call, square-to-number-call, finish-square-call, runs-for-window-call, handle-line-call};
 ghost use Rattle.boundary.specs.Calls.{fill-by-number-call, fill-by-square-call, check-by-number-call, check-by-square-call};
+ghost use Rattle.boundary.specs.Calls.{card-length-call, write-card-call, read-card-call};
 
 // The first two, or three, places of a slice.
 fn put_two(result: &mut [u32], x: u32, y: u32)
@@ -254,6 +259,98 @@ pub extern "C" fn uvalinda_check_by_square(w: u32, h: u32, table: &[u32], result
     }
     let answer = tables::check_by_square(Area { w, h, ox: 0, oy: 0 }, table);
     tell_check(answer, result)
+}
+
+// The answer to how long a card is: its bytes to the first place.
+fn tell_length(answer: LengthAnswer, bytes: &mut [u64]) -> u32
+    requires { ⌜ 1 ≤ length (now bytes) ⌝ }
+    ensures returned { λ r. ⌜ r ≡ length-figures answer .refusal ⌝ }
+    ensures bytes { λ r. ⌜ now (bytes .exit) ≡ length-figures answer .values ++ drop 1 (now (bytes .entry)) ⌝ }
+{
+    match answer {
+        LengthAnswer::Bytes { bytes: count } => {
+            bytes[0] = count;
+            0
+        }
+        LengthAnswer::Refused(r) => {
+            bytes[0] = 0;
+            terms::refusal_number(r)
+        }
+    }
+}
+
+// How many bytes the card of an area has.
+#[no_mangle]
+pub extern "C" fn uvalinda_card_length(w: u32, h: u32, bytes: &mut [u64]) -> u32
+    ensures returned { λ r. ⌜ r ≡ card-length-call w h (now (bytes .entry)) .returned ⌝ }
+    ensures bytes { λ r. ⌜ now (bytes .exit) ≡ card-length-call w h (now (bytes .entry)) .values ⌝ }
+{
+    if bytes.len() < 1 {
+        return SHORT;
+    }
+    let answer = cards::card_length(Area { w, h, ox: 0, oy: 0 });
+    tell_length(answer, bytes)
+}
+
+// Writes a table as the card of an area.
+#[no_mangle]
+pub extern "C" fn uvalinda_write_card(
+    w: u32,
+    h: u32,
+    kind: u32,
+    table: &[u32],
+    file: &mut [u8],
+) -> u32
+    ensures returned { λ r. ⌜ r ≡ write-card-call w h kind (now (table .entry)) (now (file .entry)) .returned ⌝ }
+    ensures file { λ r. ⌜ now (file .exit) ≡ write-card-call w h kind (now (table .entry)) (now (file .entry)) .file ⌝ }
+{
+    let answer = cards::write_card(Area { w, h, ox: 0, oy: 0 }, kind, table, file);
+    match answer {
+        WriteAnswer::Written => 0,
+        WriteAnswer::Refused(r) => terms::refusal_number(r),
+    }
+}
+
+// A reader's answer: the block of a bad check to the first place, 0 where there is none.
+fn tell_read(answer: ReadAnswer, block: &mut [u64]) -> u32
+    requires { ⌜ 1 ≤ length (now block) ⌝ }
+    ensures returned { λ r. ⌜ r ≡ read-figures answer .refusal ⌝ }
+    ensures block { λ r. ⌜ now (block .exit) ≡ read-figures answer .values ++ drop 1 (now (block .entry)) ⌝ }
+{
+    match answer {
+        ReadAnswer::Read => {
+            block[0] = 0;
+            0
+        }
+        ReadAnswer::Refused {
+            refusal,
+            block: bad,
+        } => {
+            block[0] = bad;
+            terms::refusal_number(refusal)
+        }
+    }
+}
+
+// Reads the card of an area into a table, and says which block is the first with a bad check.
+#[no_mangle]
+pub extern "C" fn uvalinda_read_card(
+    w: u32,
+    h: u32,
+    kind: u32,
+    file: &[u8],
+    table: &mut [u32],
+    block: &mut [u64],
+) -> u32
+    ensures returned { λ r. ⌜ r ≡ read-card-call w h kind (now (file .entry)) (now (table .entry)) (now (block .entry)) .returned ⌝ }
+    ensures block { λ r. ⌜ now (block .exit) ≡ read-card-call w h kind (now (file .entry)) (now (table .entry)) (now (block .entry)) .values ⌝ }
+    ensures table { λ r. ⌜ now (table .exit) ≡ read-card-call w h kind (now (file .entry)) (now (table .entry)) (now (block .entry)) .lent ⌝ }
+{
+    if block.len() < 1 {
+        return SHORT;
+    }
+    let answer = cards::read_card(Area { w, h, ox: 0, oy: 0 }, kind, file, table);
+    tell_read(answer, block)
 }
 
 // The answer to a window: how many runs there are, to the first place.
