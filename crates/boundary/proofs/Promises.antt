@@ -1,5 +1,5 @@
--- What the promises across the boundary come to: filled tables hold what the lookups say, and calls that leave a slice or a table as it is, or find every
--- slice too short, are turned away. Two results that meet a promise are one by `two-equations` and `three-equations` of terms.
+-- What the promises across the boundary come to: filled tables hold what the lookups say, and calls that leave a slice, a table or a file as it is, or find
+-- every slice too short, are turned away. Two results that meet a promise are one by `two-equations` and `three-equations` of terms.
 use mathlib.Core.Bool.{Bool, true}
 use mathlib.Core.List.{List, [], _∷_, _++_}
 use mathlib.Core.Path.{_≡_, refl, sym, ap, ap₂, _∙_}
@@ -11,17 +11,23 @@ use lib.IntN.{ℤ, pos, _+ℤ_}
 use lib.ListN.{length, drop, getD, replicate, length-replicate, getD-replicate, drop-of-length-le}
 use Rattle.terms.specs.declared.Area.{Area}
 use Rattle.terms.specs.Terms.{FiguresOf, answered}
+use Rattle.terms.specs.Comparing.{same-numbers}
 use Rattle.terms.proofs.Limits.{limits, grid-passed}
-use Rattle.division.specs.Division.{square-of}
+use Rattle.division.specs.Division.{whole, choice, even-half, part, parts, parts-of, moved, against, row, curve-by, down, curve, square-of}
+use Rattle.division.specs.Division.{blocks, blocks-holding, count, within, holds}
 use Rattle.curve.specs.Lookups.{all, number-to-square-at, square-to-number-at}
 use Rattle.curve.proofs.Finish.{same-added}
 use Rattle.curve.proofs.Demands.{found, number-asked, square-asked, square-back-at}
-use Rattle.tables.specs.Tables.{by-number, by-square, due-by, unless-refused, fill}
+use Rattle.tables.specs.Tables.{places, by-number, by-square, due-by, some-deep, unless-refused, fill}
 use Rattle.tables.proofs.Promises.{number-holds, kinds-inverse, that-length-filled, filled-so, fills-nothing}
+use Rattle.sectors.specs.Sectors.{words-of, bytes-of, sum, sealed, packed, good, first-bad}
+use Rattle.layouts.specs.Layouts.{card-of, card}
+use Rattle.cards.specs.Cards.{write, read}
 use Rattle.clerk.specs.declared.Clerk.{Clerk}
 use Rattle.clerk.specs.Clerk.{Refused, reply}
 use Rattle.boundary.specs.Boundary.{returned, written, filled, area-at}
 use Rattle.boundary.specs.Handling.{shown, handled-by}
+use Rattle.boundary.specs.Calls.{write-card-call, read-card-call}
 
 -- Demand 2: "filled tables hold what the lookups say". The calls' squares are counted from the datum post, the table's from the area's own corner, "with the
 -- origin subtracted". Of the lists that are due:
@@ -91,3 +97,38 @@ module _ {A : Type 0} (n : ℕ) (f : FiguresOf A) (u v : A) (differ : u ≡ v �
 -- A fill of either kind that leaves its table as it is, with room for the count.
 pub table-left-alone : (kind : Bool) → ((w h : ℕ) (t : List ℕ) → t ≡ filled (fill w h t) (due-by kind w h) t (0 ∷ [])) → ⊥
 table-left-alone kind promise = fills-nothing kind promise
+
+-- The card of 1 by 1, which has 1,024 bytes, is written over a file of nines, and read over a 9; and of two blocks the second one's check is bad.
+abbrev bad-behind : List ℕ
+bad-behind = bytes-of (sealed []) ++ replicate 512 0
+
+cards-of-1 : (getD (write-card-call 1 1 1 (0 ∷ []) (replicate 1024 9) .file) 0 0 ≡ 1)
+    × ((length (card 1 1 1) ≡ 1024)
+    × ((read-card-call 1 1 1 (card 1 1 1) (9 ∷ []) (9 ∷ []) .lent ≡ 0 ∷ []) × (read-card-call 1 1 1 bad-behind (9 ∷ []) (9 ∷ []) .values ≡ 1 ∷ [])))
+unfolding write read card-of sealed packed bytes-of words-of sum good first-bad same-numbers unless-refused places by-number by-square some-deep square-of
+    whole choice even-half part parts parts-of against moved row curve-by down curve blocks blocks-holding count within holds mathlib.Core.List.flatten
+cards-of-1 = (refl, (refl, (refl, refl)))
+
+-- A writer that leaves its file as it is, and one that writes whatever there is to refuse.
+pub file-left-alone : ((w h kind : ℕ) (table file : List ℕ) → file ≡ write-card-call w h kind table file .file) → ⊥
+file-left-alone promise =
+    let same : _≡_ {A = ℕ} 9 1 = ap (λ (file : List ℕ). getD file 0 0) (promise 1 1 1 (0 ∷ []) (replicate 1024 9)) ∙ cards-of-1 .0 in
+    omega arith
+
+pub file-written-at-all : ((w h kind : ℕ) (table file : List ℕ) → card w h kind ≡ write-card-call w h kind table file .file) → ⊥
+unfolding write unless-refused
+file-written-at-all promise =
+    let same : _≡_ {A = ℕ} 1024 0 = sym (cards-of-1 .1 .0) ∙ ap length (promise 1 1 1 (0 ∷ []) []) in
+    omega arith
+
+-- A reader that leaves its table as it is, and one that never tells a block.
+pub table-left-unread : ((w h kind : ℕ) (file table block : List ℕ) → table ≡ read-card-call w h kind file table block .lent) → ⊥
+table-left-unread promise =
+    let same : _≡_ {A = ℕ} 9 0 = ap (λ (table : List ℕ). getD table 0 0) (promise 1 1 1 (card 1 1 1) (9 ∷ []) (9 ∷ []) ∙ cards-of-1 .1 .1 .0) in
+    omega arith
+
+pub block-never-told : ((w h kind : ℕ) (file table block : List ℕ) → 1 ≤ length block → 0 ∷ drop 1 block ≡ read-card-call w h kind file table block .values)
+    → ⊥
+block-never-told promise =
+    let same : _≡_ {A = ℕ} 0 1 = ap (λ (block : List ℕ). getD block 0 0) (promise 1 1 1 bad-behind (9 ∷ []) (9 ∷ []) (omega arith) ∙ cards-of-1 .1 .1 .1) in
+    omega arith

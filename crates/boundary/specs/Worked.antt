@@ -1,18 +1,21 @@
 -- Calls from C worked by hand, as one table under one claim, which computes: each call answered, refused and with a slice that is too short, and what it then
--- returns and leaves; lines with an area in force and without, and lines in order. The answers are those of the other tables of cases.
+-- returns and leaves; cards in words; lines with an area in force and without, and lines in order. The answers are those of the other tables of cases.
 use mathlib.Core.Bool.{Bool, true, false, _&&_}
-use mathlib.Core.List.{List, [], _∷_}
-use Prim.Native.Nat.{ℕ}
+use mathlib.Core.List.{List, [], _∷_, _++_}
+use Prim.Native.Nat.{ℕ, _-_}
 use Prim.Native.String.{String}
 use lib.Dec.{T, eqb}
 use lib.IntN.{ℤ, pos, negsuc}
-use lib.ListN.{replicate}
+use lib.ListN.{length, replicate}
 use Rattle.terms.specs.Terms.{accepted, origin-accepted, in-signs}
 use Rattle.terms.specs.Comparing.{same-numbers, same-integers}
 use Rattle.division.specs.Division.{whole, choice, even-half, part, parts, parts-of, moved, against, row, curve-by, down, curve, square-of, number-of}
 use Rattle.division.specs.Division.{blocks, blocks-holding, count, place-in, same, within, holds}
 use Rattle.curve.specs.Lookups.{from-origin, number-to-square-at, square-to-number-at, finish-square-at}
 use Rattle.tables.specs.Tables.{places, by-number, by-square, some-deep, unless-refused, fill, judged, check}
+use Rattle.sectors.specs.Sectors.{words-of, bytes-of, sum, sealed, packed, good, first-bad}
+use Rattle.layouts.specs.Layouts.{card-of}
+use Rattle.cards.specs.Cards.{measure, write, read}
 use Rattle.windows.specs.Windows.{in-window, ahead, runs-from, window-runs, pairs, written, runs-for-window-at, slice-after-at}
 use Rattle.windows.specs.Windows as Windows
 use Rattle.words.specs.Letters.{bytes}
@@ -21,8 +24,9 @@ use Rattle.words.specs.Signed.{signed-numeral}
 use Rattle.fields.specs.Fields.{fields}
 use Rattle.lines.specs.Lines.{shaped, request}
 use Rattle.clerk.specs.Clerk.{after, reply}
-use Rattle.boundary.specs.Calls.{Outcome, Lent-outcome, number-to-square-call, square-to-number-call, finish-square-call, runs-for-window-call}
-use Rattle.boundary.specs.Calls.{fill-by-number-call, fill-by-square-call, check-by-number-call, check-by-square-call, handle-line-call}
+use Rattle.boundary.specs.Calls.{Outcome, Lent-outcome, File-outcome, number-to-square-call, square-to-number-call, finish-square-call}
+use Rattle.boundary.specs.Calls.{fill-by-number-call, fill-by-square-call, check-by-number-call, check-by-square-call}
+use Rattle.boundary.specs.Calls.{card-length-call, write-card-call, read-card-call, runs-for-window-call, handle-line-call}
 use Rattle.boundary.specs.Caller.{got}
 
 -- What is due of a call: what it returns and leaves.
@@ -33,8 +37,8 @@ pub record Due (A : Type 0) : Type 0 where
 abbrev due : {A : Type 0} → ℕ → List A → Due A
 due returns leaves = record { returns = returns; leaves = leaves }
 
--- A line of the table: a call with its arguments, the slice for the values last, and what is due; of a call that is lent a table, or a slice for runs, also
--- what is left there.
+-- A line of the table: a call with its arguments, the slice for the values last, and what is due; of a call that writes a table, or a slice for runs, also
+-- what is left there. Of the call that writes a file, what is left there.
 pub data Case : Type 0 where
   of-number : (w h : ℕ) (ox oy : ℤ) (number : ℕ) (result : List ℤ) → Due ℤ → Case
   of-square : (w h : ℕ) (ox oy x y : ℤ) (result : List ℕ) → Due ℕ → Case
@@ -43,6 +47,9 @@ pub data Case : Type 0 where
   fills-by-square : (w h : ℕ) (table blocks : List ℕ) → Due ℕ → (left : List ℕ) → Case
   checks-by-number : (w h : ℕ) (table result : List ℕ) → Due ℕ → Case
   checks-by-square : (w h : ℕ) (table result : List ℕ) → Due ℕ → Case
+  of-length : (w h : ℕ) (bytes : List ℕ) → Due ℕ → Case
+  writes-card : (w h kind : ℕ) (table file : List ℕ) → Due ℕ → Case
+  reads-card : (w h kind : ℕ) (file table block : List ℕ) → Due ℕ → (left : List ℕ) → Case
   of-window : (w h : ℕ) (ox oy x0 y0 x1 y1 : ℤ) (runs result : List ℕ) → Due ℕ → (left : List ℕ) → Case
   of-line : (w h : ℕ) (ox oy : ℤ) → String → (result : List ℤ) → Due ℤ → Case
   -- lines in order, from this slice on, each with what the last one left
@@ -57,6 +64,9 @@ has-integers o d = eqb (o .returned) (d .returns) && same-integers (o .values) (
 has-lent : Lent-outcome → Due ℕ → List ℕ → Bool
 has-lent o d left = eqb (o .returned) (d .returns) && same-numbers (o .values) (d .leaves) && same-numbers (o .lent) left
 
+has-file : File-outcome → Due ℕ → Bool
+has-file o d = eqb (o .returned) (d .returns) && same-numbers (o .file) (d .leaves)
+
 have-all : List (Outcome ℤ) → List (Due ℤ) → Bool
 unfolding has-integers
 have-all [] [] = true
@@ -65,7 +75,7 @@ have-all (o ∷ os) [] = false
 have-all (o ∷ os) (d ∷ ds) = has-integers o d && have-all os ds
 
 right : Case → Bool
-unfolding has-numbers has-integers has-lent have-all
+unfolding has-numbers has-integers has-lent has-file have-all
 right (of-number w h ox oy n s d) = has-integers (number-to-square-call w h ox oy n s) d
 right (of-square w h ox oy x y s d) = has-numbers (square-to-number-call w h ox oy x y s) d
 right (of-finish w h ox oy s d) = has-integers (finish-square-call w h ox oy s) d
@@ -73,6 +83,9 @@ right (fills-by-number w h t s d left) = has-lent (fill-by-number-call w h t s) 
 right (fills-by-square w h t s d left) = has-lent (fill-by-square-call w h t s) d left
 right (checks-by-number w h t s d) = has-numbers (check-by-number-call w h t s) d
 right (checks-by-square w h t s d) = has-numbers (check-by-square-call w h t s) d
+right (of-length w h s d) = has-numbers (card-length-call w h s) d
+right (writes-card w h kind t file d) = has-file (write-card-call w h kind t file) d
+right (reads-card w h kind file t s d left) = has-lent (read-card-call w h kind file t s) d left
 right (of-window w h ox oy x0 y0 x1 y1 runs s d left) = has-lent (runs-for-window-call w h ox oy x0 y0 x1 y1 runs s) d left
 right (of-line w h ox oy line s d) = has-integers (handle-line-call w h ox oy (bytes line) s) d
 right (of-lines lines s ds) = have-all (got s (mathlib.Core.List.map bytes lines)) ds
@@ -90,6 +103,27 @@ signed-nines n = replicate n (pos 9)
 
 abbrev zeros : ℕ → List ℤ
 zeros n = replicate n (pos 0)
+
+-- A block with these words in use, all under 256 and so each a byte before three zeros, with this count and this check.
+spread : List ℕ → List ℕ
+spread [] = []
+spread (v ∷ vs) = v ∷ 0 ∷ 0 ∷ 0 ∷ spread vs
+
+abbrev block : (used : List ℕ) (count check : ℕ) → List ℕ
+block used count check = spread (used ++ replicate (126 - length used) 0 ++ (count ∷ check ∷ []))
+
+-- The cards of 3 by 2. Block 0 has 1, the width, the height and the kind; its check is 1 more than these and 4, the block of the table's 1 more than 15 and 6.
+abbrev table-by-number : List ℕ
+table-by-number = 0 ∷ 3 ∷ 4 ∷ 5 ∷ 2 ∷ 1 ∷ []
+
+abbrev table-by-square : List ℕ
+table-by-square = 0 ∷ 5 ∷ 4 ∷ 1 ∷ 2 ∷ 3 ∷ []
+
+abbrev card-by-number : List ℕ
+card-by-number = block (1 ∷ 3 ∷ 2 ∷ 1 ∷ []) 4 12 ++ block table-by-number 6 22
+
+abbrev card-by-square : List ℕ
+card-by-square = block (1 ∷ 3 ∷ 2 ∷ 2 ∷ []) 4 13 ++ block table-by-square 6 22
 
 pub worked : List Case
 worked =
@@ -125,6 +159,34 @@ worked =
     ∷ checks-by-square 2 2 (0 ∷ 3 ∷ 1 ∷ 1 ∷ []) (nines 3) (due 0 (1 ∷ 3 ∷ 2 ∷ []))
     ∷ checks-by-square 4096 4097 [] (nines 3) (due 13 (0 ∷ 0 ∷ 0 ∷ []))
     ∷ checks-by-square 2 2 (0 ∷ 3 ∷ 1 ∷ 2 ∷ []) [] (due 255 [])
+    -- 126 places fit a block, and 127 take two; "at most 68,174,848"
+    ∷ of-length 14 9 (nines 2) (due 0 (1024 ∷ 9 ∷ []))
+    ∷ of-length 127 1 (nines 1) (due 0 (1536 ∷ []))
+    ∷ of-length 4096 4096 (nines 1) (due 0 (68174848 ∷ []))
+    ∷ of-length 4096 4097 (nines 2) (due 13 (0 ∷ 9 ∷ []))
+    ∷ of-length 3 0 (nines 1) (due 1 (0 ∷ []))
+    ∷ of-length 3 0 [] (due 255 [])
+    -- a card is written where there is nothing to refuse: a kind, "only a right" table, and 4 "for the table or the file" before both
+    ∷ writes-card 3 2 1 table-by-number (nines 1024) (due 0 card-by-number)
+    ∷ writes-card 3 2 2 table-by-square (nines 1024) (due 0 card-by-square)
+    ∷ writes-card 3 2 2 table-by-number (nines 1024) (due 15 (nines 1024))
+    ∷ writes-card 3 2 3 table-by-number (nines 1024) (due 15 (nines 1024))
+    ∷ writes-card 2 3 1 table-by-number (nines 1024) (due 15 (nines 1024))
+    ∷ writes-card 3 2 3 table-by-number (nines 1023) (due 4 (nines 1023))
+    ∷ writes-card 3 2 3 (nines 5) (nines 1024) (due 4 (nines 1024))
+    ∷ writes-card 3 0 1 [] [] (due 1 [])
+    -- and read: the block of the first bad check also where it is refused, also behind the card, and 0 for all else that is
+    ∷ reads-card 3 2 1 card-by-number (nines 6) (nines 2) (due 0 (0 ∷ 9 ∷ [])) table-by-number
+    ∷ reads-card 3 2 2 card-by-square (nines 6) (nines 1) (due 0 (0 ∷ [])) table-by-square
+    ∷ reads-card 3 2 3 (block (1 ∷ 3 ∷ 2 ∷ 1 ∷ []) 4 12 ++ block table-by-number 6 23) (nines 6) (nines 2) (due 14 (1 ∷ 9 ∷ [])) (nines 6)
+    ∷ reads-card 3 2 1 (block (1 ∷ 3 ∷ 2 ∷ 1 ∷ []) 4 11 ++ block table-by-number 6 23) (nines 6) (nines 2) (due 14 (0 ∷ 9 ∷ [])) (nines 6)
+    ∷ reads-card 3 2 1 (card-by-number ++ nines 512) (nines 6) (nines 1) (due 14 (2 ∷ [])) (nines 6)
+    ∷ reads-card 3 2 1 (card-by-number ++ nines 511) (nines 6) (nines 1) (due 15 (0 ∷ [])) (nines 6)
+    ∷ reads-card 3 2 2 card-by-number (nines 6) (nines 2) (due 15 (0 ∷ 9 ∷ [])) (nines 6)
+    ∷ reads-card 2 3 1 card-by-number (nines 6) (nines 2) (due 15 (0 ∷ 9 ∷ [])) (nines 6)
+    ∷ reads-card 3 2 1 (nines 512) (nines 5) (nines 2) (due 4 (0 ∷ 9 ∷ [])) (nines 5)
+    ∷ reads-card 3 2 1 card-by-number (nines 6) [] (due 255 []) (nines 6)
+    ∷ reads-card 3 2 1 (nines 512) (nines 6) [] (due 255 []) (nines 6)
     -- the number of runs also where there is no room for them, refusal 11
     ∷ of-window 3 4 (negsuc 4) (pos 7) (negsuc 4) (pos 7) (negsuc 3) (pos 8) (nines 5) (nines 2) (due 0 (2 ∷ 9 ∷ [])) (0 ∷ 1 ∷ 9 ∷ 10 ∷ 9 ∷ [])
     ∷ of-window 3 4 (negsuc 4) (pos 7) (negsuc 4) (pos 7) (negsuc 3) (pos 8) (nines 3) (nines 2) (due 11 (2 ∷ 9 ∷ [])) (nines 3)
@@ -161,9 +223,10 @@ worked =
     ∷ []
 
 pub worked-right : T (all-right worked)
-unfolding worked all-right right has-numbers has-integers has-lent have-all same-numbers same-integers got after reply request shaped fields same-bytes
-    signed-numeral numeral is-number all-digits value-on number-to-square-at square-to-number-at finish-square-at from-origin in-signs
-    fill check unless-refused judged places by-number by-square some-deep runs-for-window-at slice-after-at written
-    window-runs runs-from ahead pairs in-window Windows.some-deep accepted origin-accepted square-of number-of place-in same whole choice
-    even-half part parts parts-of against moved row curve-by down curve blocks blocks-holding count within holds mathlib.Core.List.flatten
+unfolding worked all-right right has-numbers has-integers has-lent has-file have-all spread same-numbers same-integers got after reply request shaped fields
+    same-bytes signed-numeral numeral is-number all-digits value-on number-to-square-at square-to-number-at finish-square-at from-origin in-signs
+    fill check unless-refused judged places by-number by-square some-deep measure write read card-of sealed packed bytes-of words-of sum good first-bad
+    runs-for-window-at slice-after-at written window-runs runs-from ahead pairs in-window Windows.some-deep accepted origin-accepted square-of number-of
+    place-in same whole choice even-half part parts parts-of against moved row curve-by down curve blocks blocks-holding count within holds
+    mathlib.Core.List.flatten
 worked-right = tt
