@@ -56,7 +56,8 @@ fn main() {
     let header = found("include/uvalinda.h", |line| {
         let mut words = line.strip_prefix("#define UVALINDA_")?.split_whitespace();
         let (name, number) = (words.next()?, words.next()?.strip_suffix('u')?);
-        let refusal = !name.ends_with("_PLACES") && !name.starts_with("REPLY_") && name != "ANSWERED" && name != "SHORT_RESULT";
+        let kind = name.starts_with("REPLY_") || name.starts_with("BY_");
+        let refusal = !name.ends_with("_PLACES") && !kind && name != "ANSWERED" && name != "SHORT_RESULT";
         owned(name, number).filter(|_| refusal)
     });
     let rust = found("bindings/rust/src/refusal.rs", listed);

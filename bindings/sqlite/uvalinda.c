@@ -25,7 +25,7 @@ static const struct {
     {UVALINDA_AREA_LIMIT, "AreaLimit", "the width or the height is 0 or over 65,535"},
     {UVALINDA_SQUARE_OUTSIDE, "SquareOutside", "the square is outside the area"},
     {UVALINDA_NUMBER_OUTSIDE, "NumberOutside", "the area has no such number"},
-    {UVALINDA_TABLE_LENGTH, "TableLength", "the table has not as many places as the area has squares"},
+    {UVALINDA_TABLE_LENGTH, "TableLength", "the table has not as many places as the area has squares, or the file not as many bytes as its card"},
     {UVALINDA_NOT_A_NUMBER, "NotANumber", "a field is not a number"},
     {UVALINDA_WRONG_SHAPE, "WrongShape", "the line has the wrong shape"},
     {UVALINDA_NO_AREA, "NoArea", "no area is in force"},
@@ -35,6 +35,8 @@ static const struct {
     {UVALINDA_NO_ROOM, "NoRoom", "there are more runs than there is room for"},
     {UVALINDA_ORIGIN_LIMIT, "OriginLimit", "the origin is beyond 1,000,000 either way"},
     {UVALINDA_TOO_MANY_SQUARES, "TooManySquares", "the area has more than 16,777,216 squares"},
+    {UVALINDA_BAD_CHECK, "BadCheck", "the check of a block is bad"},
+    {UVALINDA_DEPARTURE, "Departure", "the file is not the card of this area and kind, or the table not the right one"},
 };
 
 enum { REFUSALS = sizeof refusals / sizeof *refusals };

@@ -4,6 +4,7 @@ import array
 import ctypes
 import doctest
 import mmap
+import os
 import pathlib
 import pickle
 import re
@@ -12,7 +13,7 @@ import sys
 import unittest
 
 import uvalinda
-from uvalinda import Area, AreaReply, Cell, Clerk, Number, OriginReply, Right, Square, Window, Wrong, raw
+from uvalinda import Area, AreaReply, Cell, Clerk, Kind, Number, OriginReply, Right, Square, Window, Wrong, raw
 
 HEADER = (pathlib.Path(__file__).parents[3] / "include/uvalinda.h").read_text()
 
@@ -39,10 +40,12 @@ class Declarations(unittest.TestCase):
             self.assertEqual(list(getattr(raw, name).argtypes), [self.TYPES[kind] for kind in kinds], name)
             self.assertIs(getattr(raw, name).restype, ctypes.c_uint32, name)
 
-    def test_every_refusal_has_its_name_and_number(self):
+    def test_every_refusal_and_kind_has_its_name_and_number(self):
         numbered = {name: int(number) for name, number in re.findall(r"^#define UVALINDA_(\w+) (\d+)u", HEADER, re.M)}
         for other in [name for name in numbered if name.endswith("_PLACES")] + ["ANSWERED", "SHORT_RESULT"]:
             del numbered[other]
+        for kind in Kind:
+            self.assertEqual(numbered.pop(kind.name), kind)
         in_c = {re.sub(r"(?<!^)(?=[A-Z])", "_", name).upper(): getattr(uvalinda, name).number for name in uvalinda.refusal.__all__ if name != "Refusal"}
         self.assertEqual(in_c, numbered)
 
@@ -106,6 +109,8 @@ class Refusals(unittest.TestCase):
     def test_a_refusal_can_be_handed_to_another_process(self):
         again = pickle.loads(pickle.dumps(uvalinda.OriginLimit()))
         self.assertIs(type(again), uvalinda.OriginLimit)
+        again = pickle.loads(pickle.dumps(uvalinda.BadCheck(7)))
+        self.assertEqual((again.block, str(again)), (7, "the check of block 7 is bad"))
 
 
 class Tables(unittest.TestCase):
@@ -152,13 +157,23 @@ class Tables(unittest.TestCase):
         with self.assertRaises(uvalinda.AreaLimit):
             Area(0, 4).fill_by_square(array.array("I"))
 
-    def test_a_refusal_that_is_kept_keeps_no_table(self):
-        for call in (Area(3, 4).fill_by_number, Area(3, 4).check_by_number):
-            table = array.array("I")
-            with self.assertRaises(uvalinda.TableLength) as kept:
-                call(table)
+    def test_a_refusal_that_is_kept_keeps_no_buffer(self):
+        area = Area(3, 4)
+        for call in (
+            lambda table, _: area.fill_by_number(table),
+            lambda table, _: area.check_by_number(table),
+            lambda table, file: area.write_card(Kind.BY_NUMBER, table, file),
+            lambda table, file: area.read_card(Kind.BY_NUMBER, file, table),
+        ):
+            table, file, kept = array.array("I"), bytearray(512), None
+            # Not by assertRaises, which lets go of what a refusal keeps.
+            try:
+                call(table, file)
+            except uvalinda.TableLength as refusal:
+                kept = refusal
             table.append(7)
-            self.assertEqual(kept.exception.number, 4)
+            file.append(7)
+            self.assertEqual(kept.number, 4)
 
 
 def mmap_of(size):
@@ -213,7 +228,9 @@ class Command(unittest.TestCase):
             self.assertEqual((out, status), (b"", 1))
             self.assertIn(f"{arguments}: refused {refusal}: ", said)
         for arguments in ((), ("3",), ("3", "4", "5"), ("3", "4", "5", "6", "7")):
-            self.assertEqual(self.ran(b"x,y\n", *arguments)[1:], ("uvalinda: usage: python3 -m uvalinda W H [OX OY] <IN.csv >OUT.csv\n", 1))
+            out, said, status = self.ran(b"x,y\n", *arguments)
+            self.assertEqual((out, said.count("\n"), status), (b"", 1, 1))
+            self.assertIn("uvalinda: usage: python3 -m uvalinda W H [OX OY] <IN.csv >OUT.csv, or ", said)
 
     def test_a_table_that_cannot_be_worked_with(self):
         names = "uvalinda: the first row has to name one column x and one y, and none number or refused\n"
@@ -232,8 +249,11 @@ class Command(unittest.TestCase):
             self.assertEqual((run.stderr, run.returncode), (b"uvalinda: standard input and output have to be open\n", 1))
 
     def test_what_cannot_be_written_is_told_once(self):
+        # What is not kept for later cannot be tried again at the end.
+        environment = {name: value for name, value in os.environ.items() if name != "PYTHONUNBUFFERED"}
+        command = [sys.executable, "-m", "uvalinda", "3", "4"]
         with open("/dev/full", "wb") as full:
-            run = subprocess.run([sys.executable, "-m", "uvalinda", "3", "4"], input=b"x,y\n2,1\n", stdout=full, stderr=subprocess.PIPE, check=False)
+            run = subprocess.run(command, input=b"x,y\n2,1\n", stdout=full, stderr=subprocess.PIPE, env=environment, check=False)
         self.assertEqual((run.returncode, run.stderr.count(b"\n")), (1, 1))
 
 

@@ -1,9 +1,11 @@
 """An area, and the calls on it."""
 
+import array
 import dataclasses
+import enum
 import operator
 import sys
-from ctypes import addressof, alignment, c_int32, c_uint32, c_uint64
+from ctypes import addressof, alignment, c_char, c_int32, c_uint32, c_uint64, sizeof
 from typing import NamedTuple
 
 from . import raw, refusal
@@ -38,6 +40,13 @@ class Window(NamedTuple):
     y0: int
     x1: int
     y1: int
+
+
+class Kind(enum.IntEnum):
+    """Which of its area's two tables a card holds: the one that `fill_by_number` fills, or the one that `fill_by_square` does."""
+
+    BY_NUMBER = 1
+    BY_SQUARE = 2
 
 
 @dataclasses.dataclass(frozen=True)
@@ -78,22 +87,43 @@ def _narrowed_span(start, end):
     return (1, 0) if start > end else (narrowed_signed(start), narrowed_signed(end))
 
 
-# A table as the library is lent it. Its numbers are below 2 to the 24th, so that a signed place holds them too. A table that cannot be written is copied,
-# and only a check takes such a one.
-def _lent(table, to_write):
-    view = memoryview(table)
+class _Lendable(NamedTuple):
+    """What the library is lent: its name, which buffers it can be, what a place of it is in C, and how a buffer says that its places are such ones."""
+
+    name: str
+    buffers: str
+    place: type
+    formats: tuple
+
+
+# The numbers of a table are below 2 to the 24th, so that a signed place holds them too.
+_TABLE = _Lendable("table", "a buffer of 32-bit whole numbers", c_uint32, ("I", "i", "L", "l"))
+_FILE = _Lendable("file", "a buffer of bytes", c_char, ("B", "b", "c"))
+
+
+# A table or a file as the library is lent it. One that cannot be written is copied, if it is only to be read.
+def _lent(buffer, what, to_write):
+    view = memoryview(buffer)
     native = "@=<" if sys.byteorder == "little" else "@=>"
-    if view.itemsize != 4 or view.format.lstrip(native) not in ("I", "i", "L", "l"):
-        raise TypeError("a table is a buffer of 32-bit whole numbers")
+    if view.itemsize != sizeof(what.place) or view.format.lstrip(native) not in what.formats:
+        raise TypeError(f"a {what.name} is {what.buffers}")
     if not view.c_contiguous:
-        raise TypeError("the places of a table stand one behind the other")
+        raise TypeError(f"the places of a {what.name} stand one behind the other")
     if to_write and view.readonly:
-        raise TypeError("the table cannot be written")
-    places = c_uint32 * (view.nbytes // 4)
+        raise TypeError(f"the {what.name} cannot be written")
+    places = what.place * (view.nbytes // sizeof(what.place))
     lent = places.from_buffer_copy(view) if view.readonly else places.from_buffer(view)
-    if len(lent) > 0 and addressof(lent) % alignment(c_uint32) != 0:
-        raise TypeError("the table starts where no 32-bit number can stand")
+    if len(lent) > 0 and addressof(lent) % alignment(what.place) != 0:
+        raise TypeError(f"the {what.name} starts where no 32-bit number can stand")
     return lent
+
+
+# A table and a file for one call, one of them to be written. C asks that it overlaps nothing else.
+def _lent_both(table, file, write_file):
+    table, file = _lent(table, _TABLE, not write_file), _lent(file, _FILE, write_file)
+    if addressof(table) < addressof(file) + sizeof(file) and addressof(file) < addressof(table) + sizeof(table):
+        raise TypeError("the table and the file overlap")
+    return table, file
 
 
 @dataclasses.dataclass(frozen=True)
@@ -101,7 +131,7 @@ class Area:
     """An area, w squares wide and h high, on the site grid: its squares are those from its origin (ox, oy) to (ox + w - 1, oy + h - 1).
 
     Any whole numbers can stand here: every call refuses an area that is not accepted, and every call that asks or answers squares an origin beyond its range.
-    Fills and checks do not depend on the origin. A refusal is raised, by its name.
+    Fills, checks and cards do not depend on the origin. A refusal is raised, by its name.
     """
 
     w: int
@@ -154,7 +184,7 @@ class Area:
         return [range(first, last + 1) for first, last in zip(runs[::2], runs[1::2])]
 
     def _fill(self, call, table):
-        lent = _lent(table, True)
+        lent = _lent(table, _TABLE, True)
         blocks = (c_uint64 * 1)()
         told = call(*self._grid[:2], lent, len(lent), blocks, len(blocks))
         del lent  # A refusal that is kept would keep the table lent.
@@ -173,7 +203,7 @@ class Area:
         return self._fill(raw.fill_by_square, table)
 
     def _check(self, call, table):
-        lent = _lent(table, False)
+        lent = _lent(table, _TABLE, False)
         judged = (c_uint32 * 3)()
         told = call(*self._grid[:2], lent, len(lent), judged, len(judged))
         del lent
@@ -191,3 +221,48 @@ class Area:
     def check_by_square(self, table):
         """Whether a table holds what `fill_by_square` writes; otherwise as `check_by_number`."""
         return self._check(raw.check_by_square, table)
+
+    def card_length(self):
+        """How many bytes a card of the area has. Refused: `AreaLimit`, then `TooManySquares`."""
+        length = (c_uint64 * 1)()
+        refusal.unless_refused(raw.card_length(*self._grid[:2], length, len(length)))
+        return length[0]
+
+    def write_card(self, kind, table, file=None):
+        """The card of a right table of this kind, as bytes; or, where a file is lent, written to it: any buffer of `card_length` bytes.
+
+        A card is made of blocks of 512 bytes, which are not those of the division. A block is 128 words of 32 bits, each with its lowest byte first: 126 of
+        content, one that counts those in use, and a check, which is 1 plus the sum of the other 127, modulo 2 to the 32nd. Words that are not in use are 0.
+        Block 0 uses four: the version, which is 1, then w, h and the kind. The table stands from block 1 on. The origin is not on a card.
+
+        Refused, with the file as it was: `AreaLimit`, `TooManySquares`, `TableLength` for the table or the file, then `Departure` for a wrong table or for a
+        kind that is no `Kind`.
+        """
+        if file is None:
+            file = bytearray(self.card_length())
+            self.write_card(kind, table, file)
+            return bytes(file)
+        kind = narrowed(whole_number(kind))
+        table, file = _lent_both(table, file, True)
+        told = raw.write_card(*self._grid[:2], kind, table, len(table), file, len(file))
+        del table, file
+        refusal.unless_refused(told)
+
+    def read_card(self, kind, file, table=None):
+        """The table of a card, a new `array.array("I")`; or, where a table is lent, read into that. A file is any buffer of bytes.
+
+        The one file that is taken is what `write_card` writes for this area and this kind. Refused, with the table as it was: `AreaLimit`, `TooManySquares`,
+        `TableLength` for the table, `BadCheck` with the first whole `block` whose check is bad, then `Departure` for every other file that is not the card,
+        as one of another length, and for a kind that is no `Kind`.
+        """
+        if table is None:
+            self.card_length()  # An area that is refused has no table.
+            table = array.array("I", [0]) * (self.w * self.h)
+            self.read_card(kind, file, table)
+            return table
+        kind = narrowed(whole_number(kind))
+        table, file = _lent_both(table, file, False)
+        block = (c_uint64 * 1)()
+        told = raw.read_card(*self._grid[:2], kind, file, len(file), table, len(table), block, len(block))
+        del table, file
+        refusal.unless_refused(told, block[0])

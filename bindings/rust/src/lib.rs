@@ -20,18 +20,20 @@
 #[doc = include_str!("../../../README.md")]
 struct Readme;
 
+mod card;
 mod clerk;
 mod raw;
 mod refusal;
 mod squares;
 
+pub use card::Kind;
 pub use clerk::{Clerk, Reply};
 pub use refusal::Refusal;
 pub use squares::Squares;
 
 /// An area, `w` squares wide and `h` high, on the site grid: its squares are those from (`ox`, `oy`), its origin, to (ox + w - 1, oy + h - 1). It has at
 /// most 16,777,216 squares, so that a number takes 24 bits at most. Any numbers can stand here: every call refuses an area that is not accepted, for a side and
-/// then for too many squares, and every call that asks or answers squares an origin beyond its range. Fills and checks do not depend on the origin.
+/// then for too many squares, and every call that asks or answers squares an origin beyond its range. Fills, checks and cards do not depend on the origin.
 ///
 /// ```
 /// # use uvalinda::{Area, Refusal, Square};

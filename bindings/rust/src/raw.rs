@@ -13,6 +13,19 @@ extern "C" {
     pub fn uvalinda_fill_by_square(w: u32, h: u32, table: *mut u32, table_length: usize, blocks: *mut u64, blocks_length: usize) -> u32;
     pub fn uvalinda_check_by_number(w: u32, h: u32, table: *const u32, table_length: usize, result: *mut u32, result_length: usize) -> u32;
     pub fn uvalinda_check_by_square(w: u32, h: u32, table: *const u32, table_length: usize, result: *mut u32, result_length: usize) -> u32;
+    pub fn uvalinda_card_length(w: u32, h: u32, bytes: *mut u64, bytes_length: usize) -> u32;
+    pub fn uvalinda_write_card(w: u32, h: u32, kind: u32, table: *const u32, table_length: usize, file: *mut u8, file_length: usize) -> u32;
+    pub fn uvalinda_read_card(
+        w: u32,
+        h: u32,
+        kind: u32,
+        file: *const u8,
+        file_length: usize,
+        table: *mut u32,
+        table_length: usize,
+        block: *mut u64,
+        block_length: usize,
+    ) -> u32;
     pub fn uvalinda_runs_for_window(
         w: u32,
         h: u32,

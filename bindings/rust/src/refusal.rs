@@ -47,7 +47,8 @@ refusals! {
     1 AreaLimit: "w or h is 0 or over 65,535.", "the width or the height is 0 or over 65,535";
     2 SquareOutside: "x - ox or y - oy is negative, x - ox >= w or y - oy >= h, of a square or of a window's corner.", "the square is outside the area";
     3 NumberOutside: "number >= w·h.", "the area has no such number";
-    4 TableLength: "The table has not exactly w·h places.", "the table has not as many places as the area has squares";
+    4 TableLength: "The table has not exactly w·h places, or the file to be written not exactly as many bytes as its card.",
+        "the table has not as many places as the area has squares, or the file to be written not as many bytes as its card";
     5 NotANumber: "A field of a line is not a number.", "a field of the line is not a number";
     6 WrongShape: "A line has the wrong shape.", "the line has the wrong shape";
     7 NoArea: "An N, S or ORIGIN line with no area in force.", "no area is in force";
@@ -58,6 +59,10 @@ refusals! {
         "there are {count} runs, more than there is room for";
     12 OriginLimit: "ox or oy is beyond 1,000,000 either way.", "the origin is beyond 1,000,000 either way";
     13 TooManySquares: "The area has more than 16,777,216 squares.", "the area has more than 16,777,216 squares";
+    14 BadCheck { block: u64, "The first whole block whose check is bad, counted from 0." }: "The check of a block of the file is bad.",
+        "the check of block {block} is bad";
+    15 Departure: "The file is otherwise not the card of this area and kind, or the table to be written is wrong.",
+        "the file is not the card of this area and kind, or the table not the right one";
 }
 
 impl core::error::Error for Refusal {}

@@ -1,5 +1,5 @@
 //! The bindings as a caller uses them: what a lookup says, what a table holds and what the iterator yields agree.
-use uvalinda::{Area, Check, Clerk, Refusal, Reply, Square, Window};
+use uvalinda::{Area, Check, Clerk, Kind, Refusal, Reply, Square, Window};
 
 // Areas that begin at (0, 0), ones that lie on both sides of the post, and ones far off.
 fn areas() -> impl Iterator<Item = Area> {
@@ -124,14 +124,16 @@ fn refusals_have_their_numbers() {
         area.runs_for_window(Window { x0: 0, y0: 0, x1: 1, y1: 1 }, &mut [[7; 2]]).unwrap_err(),
         area.at(1_000_001, 0).squares().map(|_| ()).unwrap_err(),
         Area::new(4096, 4097).squares().map(|_| ()).unwrap_err(),
+        area.read_card(Kind::ByNumber, &[0; 512], &mut [7; 12]).unwrap_err(),
+        area.read_card(Kind::ByNumber, &[0; 511], &mut [7; 12]).unwrap_err(),
     ];
-    assert_eq!(refusals.map(u32::from), [1, 2, 3, 4, 5, 6, 7, 8, 10, 11, 12, 13]);
+    assert_eq!(refusals.map(u32::from), [1, 2, 3, 4, 5, 6, 7, 8, 10, 11, 12, 13, 14, 15]);
     assert_eq!(u32::from(Refusal::TooDeep), 9);
 }
 
-// What every call says of an area that it refuses; the table and the room stay as they were.
+// What every call says of an area that it refuses; the table, the room and the file stay as they were.
 fn refused_by_all(area: Area, refusal: Refusal) {
-    let (mut table, mut room) = ([7; 3], [[7; 2]]);
+    let (mut table, mut room, mut file) = ([7; 3], [[7; 2]], [7; 600]);
     let window = Window { x0: area.ox, y0: area.oy, x1: area.ox, y1: area.oy };
     assert_eq!(area.number_to_square(u32::MAX), Err(refusal), "{area:?}");
     assert_eq!(area.square_to_number(i32::MIN, 0), Err(refusal), "{area:?}");
@@ -141,7 +143,10 @@ fn refused_by_all(area: Area, refusal: Refusal) {
     assert_eq!((area.check_by_number(&table), area.check_by_square(&table)), (Err(refusal), Err(refusal)), "{area:?}");
     assert_eq!(area.count_runs(window), Err(refusal), "{area:?}");
     assert_eq!(area.runs_for_window(window, &mut room), Err(refusal), "{area:?}");
-    assert_eq!((table, room), ([7; 3], [[7; 2]]), "{area:?}");
+    assert_eq!(area.card_length(), Err(refusal), "{area:?}");
+    assert_eq!(area.write_card(Kind::ByNumber, &table, &mut file), Err(refusal), "{area:?}");
+    assert_eq!(area.read_card(Kind::BySquare, &file, &mut table), Err(refusal), "{area:?}");
+    assert_eq!((table, room, file), ([7; 3], [[7; 2]], [7; 600]), "{area:?}");
     assert_eq!(Clerk::under(area), Clerk::new(), "{area:?}");
     let mut clerk = Clerk::under(Area::new(3, 4));
     assert_eq!(clerk.handle(format!("AREA {} {}", area.w, area.h).as_bytes()), Err(refusal), "{area:?}");
