@@ -381,6 +381,93 @@ pub fn check(w: i64, h: i64, by_square: bool, table: &[u32]) -> Answer {
     }
 }
 
+// Document 02, order 8: a card is a file of blocks. A block is 128 words: 126 of content, the count of those in use, and the check.
+const CONTENT: usize = 126;
+pub const BLOCK_WORDS: usize = 128;
+pub const BLOCK_BYTES: usize = 4 * BLOCK_WORDS;
+
+// "1 plus the sum of the other 127 words, modulo 2 to the 32nd".
+pub fn check_of(others: &[u32]) -> u32 {
+    let sum: u64 = others.iter().map(|&word| word as u64).sum();
+    ((1 + sum) % (1 << 32)) as u32
+}
+
+// A block that uses these words.
+fn sealed(content: &[u32]) -> Vec<u32> {
+    let mut words = content.to_vec();
+    words.resize(CONTENT, 0);
+    words.push(content.len() as u32);
+    words.push(check_of(&words));
+    words
+}
+
+// The words of a card whose block 0 uses these, and whose table is this: each block full but perhaps the last, none empty.
+pub fn card_words(head: &[u32], table: &[u32]) -> Vec<u32> {
+    [head].into_iter().chain(table.chunks(CONTENT)).flat_map(sealed).collect()
+}
+
+pub fn little_endian(words: &[u32]) -> Vec<u8> {
+    words.iter().flat_map(|word| word.to_le_bytes()).collect()
+}
+
+// The card of an area and a kind, 1 by number or 2 by square.
+pub fn card(w: i64, h: i64, kind: i64) -> Vec<u8> {
+    little_endian(&card_words(&[1, w as u32, h as u32, kind as u32], &table_due(w, h, kind == 2)))
+}
+
+// How many bytes the layout has: block 0, and as many blocks as hold a word for each square.
+pub fn card_length(w: i64, h: i64) -> Answer {
+    accepted(w, h)?;
+    let full = w * h / CONTENT as i64;
+    let begun = (w * h % CONTENT as i64 != 0) as i64;
+    Ok(vec![(1 + full + begun) * BLOCK_BYTES as i64])
+}
+
+// The words that a block has in use, or none where it departs from the layout: a count beyond its content, or an unused word that is not zero.
+fn words_in_use(block: &[u32]) -> Option<&[u32]> {
+    let (used, unused) = block[..CONTENT].split_at_checked(block[CONTENT] as usize)?;
+    unused.iter().all(|&word| word == 0).then_some(used)
+}
+
+// The table that a file holds if it keeps to the layout and is of this area and kind.
+fn table_held(w: i64, h: i64, kind: i64, whole: &[Vec<u32>], rest: usize) -> Option<Vec<u32>> {
+    let blocks: Vec<&[u32]> = whole.iter().map(|block| words_in_use(block)).collect::<Option<_>>()?;
+    let (head, tables) = blocks.split_first()?;
+    let told = [1, w, h, kind].map(|word| word as u32);
+    let (last, before) = tables.split_last()?;
+    let packed = before.iter().all(|used| used.len() == CONTENT) && !last.is_empty();
+    (rest == 0 && **head == told && packed).then(|| tables.concat())
+}
+
+// Whether a kind is one of the two, and the table is right for it.
+fn right_table(w: i64, h: i64, kind: i64, table: &[u32]) -> bool {
+    matches!(kind, 1 | 2) && table == table_due(w, h, kind == 2)
+}
+
+// Why the writer is refused, if it is; else it writes the card.
+pub fn write_card(w: i64, h: i64, kind: i64, table: &[u32], file_length: usize) -> Result<(), i64> {
+    accepted(w, h)?;
+    if table.len() as i64 != w * h || card_length(w, h) != Ok(vec![file_length as i64]) {
+        return Err(4);
+    }
+    table_granted(w, h, table.len())?;
+    if right_table(w, h, kind, table) { Ok(()) } else { Err(15) }
+}
+
+// Why the reader is refused, if it is, with the index of the first whole block whose check is bad, or 0; else it gives the table of this area and kind.
+pub fn read_card(w: i64, h: i64, kind: i64, file: &[u8], places: usize) -> Result<(), (i64, i64)> {
+    table_granted(w, h, places).map_err(|refusal| (refusal, 0))?;
+    let word = |bytes: &[u8]| u32::from_le_bytes(bytes.try_into().expect("four bytes"));
+    let whole: Vec<Vec<u32>> = file.chunks_exact(BLOCK_BYTES).map(|block| block.chunks(4).map(word).collect()).collect();
+    if let Some(bad) = whole.iter().position(|block| block[BLOCK_WORDS - 1] != check_of(&block[..BLOCK_WORDS - 1])) {
+        return Err((14, bad as i64));
+    }
+    match table_held(w, h, kind, &whole, file.len() % BLOCK_BYTES) {
+        Some(table) if right_table(w, h, kind, &table) => Ok(()),
+        _ => Err((15, 0)),
+    }
+}
+
 // A field as a number: 1 to 10 digits, no 0 before others unless the field has exactly ten digits, at most 4,294,967,295.
 fn number(field: &[u8]) -> Option<i64> {
     let text = std::str::from_utf8(field).ok()?;
