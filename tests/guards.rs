@@ -1,7 +1,8 @@
 // guards: the library's C functions with every slice that they are lent laid against memory that may not be touched, once up to its end and once from
-// its beginning on. What a call may not alter lies in pages that can only be read: a line, a table under a check or a refused fill, a slice that is too
-// short. Where a check by number finds one of a table's first places wrong, all places behind them lie in forbidden memory, and where an area is refused all
-// places do. Each answer is held to the independent program's. A touch of anything else ends the program, which says what was asked.
+// its beginning on. What a call may not alter lies in pages that can only be read: a line, a table under a check, a writer or a refused fill or reader, a
+// file under a reader or a refused writer, a slice that is too short. Where a check by number finds one of a table's first places wrong, all places behind
+// them lie in forbidden memory, and where an area is refused all places do, of a file too. Each answer is held to the independent program's. A touch of
+// anything else ends the program, which says what was asked.
 #[allow(dead_code)] // areas with many origins are not needed here
 mod expected;
 #[allow(dead_code)] // whole traversals are not needed here
@@ -101,11 +102,12 @@ extern "C" fn touched(_: c_int) {
     std::process::exit(1);
 }
 
-// Pages for the results, for a short table or line, and for a long one; and how many calls were made.
+// Pages for the results, for a short table or line, for a long one, and for a file; and how many calls were made.
 struct Room {
     results: Pages,
     short: Pages,
     long: Pages,
+    files: Pages,
     calls: Cell<u64>,
 }
 
@@ -224,6 +226,128 @@ fn handle_line(room: &Room, area: Area, line: &[u8]) {
     room.ask(&format!("line {text:?}, {} bytes, under {area:?}", line.len()), 8, |length| line_due(area, line, length), call);
 }
 
+fn card_length(room: &Room, w: u32, h: u32) {
+    let answer = independent::card_length(w.into(), h.into());
+    let call = |result, length, _| unsafe { raw::uvalinda_card_length(w, h, result, length) };
+    room.ask::<u64>(&format!("how long a card of {w} by {h} is"), 1, |length| due(&answer, 1, length), call);
+}
+
+// The protection of what only an answered call may write, and of what none may: where the call is refused for its area or for a length, it may not even be
+// read.
+fn protections(refusal: i64, answered: bool) -> (c_int, c_int) {
+    match refusal {
+        1 | 13 | 4 => (PROT_NONE, PROT_NONE),
+        _ => (if answered { PROT_BOTH } else { PROT_READ }, PROT_READ),
+    }
+}
+
+// A writer told an area and a kind, with a table and a file of so many bytes.
+fn write_card(room: &Room, [w, h, kind]: [u32; 3], table: &[u32], bytes: usize) {
+    let refusal = independent::write_card(w.into(), h.into(), kind.into(), table, bytes).err().unwrap_or(0);
+    let before = vec![7; bytes];
+    let after = if refusal == 0 { independent::card(w.into(), h.into(), kind.into()) } else { before.clone() };
+    for guard in [Guard::Before, Guard::Behind] {
+        let asked = format!("a writer told {w} by {h}, kind {kind}, {} places, {bytes} bytes, guard: {guard:?}, due: {refusal}", table.len());
+        asked.clone_into(&mut ASKED.lock().unwrap());
+        let (written, kept) = protections(refusal, refusal == 0);
+        let (lent, file) = (room.lay(table, guard, kept), room.files.lay(&before, guard, written));
+        let returned = unsafe { raw::uvalinda_write_card(w, h, kind, lent, table.len(), file, bytes) };
+        assert_eq!(returned, refusal as u32, "{asked}");
+        room.files.allow(PROT_READ);
+        assert!(left(file, bytes) == after, "the file after {asked}");
+        room.calls.set(room.calls.get() + 1);
+    }
+}
+
+// A reader told an area and a kind, with a file and a table of so many places.
+fn read_card(room: &Room, [w, h, kind]: [u32; 3], file: &[u8], places: usize) {
+    let verdict = independent::read_card(w.into(), h.into(), kind.into(), file, places);
+    let (refusal, block) = verdict.err().unwrap_or((0, 0));
+    let before = vec![UNTOUCHED; places];
+    let held = if refusal == 0 { independent::table_due(w.into(), h.into(), kind == 2) } else { vec![] };
+    let what = format!("a reader told {w} by {h}, kind {kind}, {} bytes, {places} places, due: {refusal} {block}", file.len());
+    let call = |result, length, guard| {
+        let answered = refusal == 0 && length >= 1;
+        let (written, kept) = protections(refusal, answered);
+        let (lent, table) = (room.files.lay(file, guard, kept), room.lay(&before, guard, written));
+        let returned = unsafe { raw::uvalinda_read_card(w, h, kind, lent, file.len(), table, places, result, length) };
+        room.short.allow(PROT_READ);
+        room.long.allow(PROT_READ);
+        assert!(left(table, places) == *(if answered { &held } else { &before }), "the table after {what}, {length} places for the result, guard: {guard:?}");
+        returned
+    };
+    room.ask::<u64>(&what, 1, |length| expected::left(refusal as u32, &[block], length), call);
+}
+
+// An area's cards of both kinds, written and read: right ones, and with other lengths, a kind that there is not, a bad check in the first and the last block,
+// a wrong place at either end, and blocks beyond the layout.
+fn cards(room: &Room, w: u32, h: u32) {
+    card_length(room, w, h);
+    for told in [[w, h, 1], [w, h, 2]] {
+        let (table, file) = (independent::table_due(w.into(), h.into(), told[2] == 2), independent::card(w.into(), h.into(), told[2].into()));
+        let (places, bytes) = (table.len(), file.len());
+        write_card(room, told, &table, bytes);
+        read_card(room, told, &file, places);
+        for no_kind in [[w, h, 0], [w, h, 3], [w, h, u32::MAX]] {
+            write_card(room, no_kind, &table, bytes);
+            read_card(room, no_kind, &file, places);
+        }
+        for length in [0, 1, 511, 512, 513, bytes - 513, bytes - 1, bytes + 1, bytes + 511, bytes + 512, bytes + 1_024] {
+            write_card(room, told, &table, length);
+            let mut other = file.clone();
+            other.resize(length, 0);
+            read_card(room, told, &other, places);
+        }
+        for length in [0, places - 1, places + 1, 2 * places] {
+            let mut other = table.clone();
+            other.resize(length, 0);
+            write_card(room, told, &other, bytes);
+            read_card(room, told, &file, length);
+        }
+        for byte in [0, 511, 512, bytes - 1] {
+            let mut bad = file.clone();
+            bad[byte] ^= 1;
+            read_card(room, told, &bad, places);
+        }
+        for place in [0, places - 1] {
+            let mut wrong = table.clone();
+            wrong[place] ^= 1;
+            write_card(room, told, &wrong, bytes);
+            let words = independent::card_words(&[1, w, h, told[2]], &wrong);
+            read_card(room, told, &independent::little_endian(&words), places);
+        }
+    }
+}
+
+// Writers and readers of an area that is refused, with as many places and bytes as it would have, none of which may be touched.
+fn refused_cards(room: &Room, w: u32, h: u32) {
+    let refusal = independent::accepted(w.into(), h.into()).expect_err("an area that is refused");
+    let places = w as usize * h as usize;
+    let bytes = 512 * (1 + places.div_ceil(126));
+    card_length(room, w, h);
+    let lent = |guard| (room.lay(&[UNTOUCHED], guard, PROT_NONE), room.files.lay(&[7], guard, PROT_NONE));
+    for kind in [1, 2, 3] {
+        let call = |block, length, guard| {
+            let (table, file) = lent(guard);
+            assert_eq!(unsafe { raw::uvalinda_write_card(w, h, kind, table, places, file, bytes) }, refusal as u32, "a writer of {w} by {h}");
+            unsafe { raw::uvalinda_read_card(w, h, kind, file, bytes, table, places, block, length) }
+        };
+        room.ask::<u64>(&format!("cards of {w} by {h}, all of their places"), 1, |length| expected::left(refusal as u32, &[0], length), call);
+    }
+}
+
+// A reader's file of 2^32 bytes more than the card that it begins with, and all of them 0: lengths are taken whole, so it has a bad block behind the card.
+fn long_file(room: &Room) {
+    let (file, length) = (independent::card(3, 4, 1), (1 << 32) + 1_024);
+    let pages = Pages::for_bytes(length);
+    let lent = pages.lay(&file, Guard::Before, PROT_READ);
+    let call = |block, places, guard| {
+        let table = room.lay(&[UNTOUCHED; 12], guard, PROT_READ);
+        unsafe { raw::uvalinda_read_card(3, 4, 1, lent, length, table, 12, block, places) }
+    };
+    room.ask::<u64>("a reader of 2^32 bytes more than a card", 1, |places| expected::left(14, &[2], places), call);
+}
+
 // Fills and checks of a table of some length; where it is the right one, checks of a right table and of one that is wrong at either end or in the middle.
 fn tables(room: &Room, w: u32, h: u32, places: usize) {
     for by_square in [false, true] {
@@ -339,7 +463,13 @@ fn main() {
         // SAFETY: no call of the library is made while the text for the message is written.
         unsafe { signal(number, touched) };
     }
-    let room = Room { results: Pages::for_bytes(4_096), short: Pages::for_bytes(4_096), long: Pages::for_bytes(1 << 20), calls: Cell::new(0) };
+    let room = Room {
+        results: Pages::for_bytes(4_096),
+        short: Pages::for_bytes(4_096),
+        long: Pages::for_bytes(1 << 20),
+        files: Pages::for_bytes(1 << 20),
+        calls: Cell::new(0),
+    };
     for (w, h) in (0..=12).flat_map(|w| (0..=12).map(move |h| (w, h))) {
         small_area(&room, Area::new(w, h));
         windows(&room, Area::new(w.max(1), h.max(1)));
@@ -361,11 +491,16 @@ fn main() {
     }
     for (w, h) in [(4096, 4097), (4097, 4096), (24929, 673), (257, 65281), (65535, 257), (65535, 65535), (65536, 1), (65536, 65536)] {
         refused_whole(&room, w, h);
+        refused_cards(&room, w, h);
         windows(&room, Area::new(w, h).at(-6, 1_000_000));
     }
     ends_where_wrong(&room, 4_096, 4_096, 64);
     ends_where_wrong(&room, 65_535, 256, 4);
     ends_where_wrong(&room, 256, 65_535, 4);
     lines(&room);
+    for (w, h) in (1..=12).flat_map(|w| (1..=12).map(move |h| (w, h))).chain([(126, 1), (127, 1), (1, 253), (65535, 1), (2, 65535), (300, 200)]) {
+        cards(&room, w, h);
+    }
+    long_file(&room);
     println!("guards: {} calls, and none touches what it was not lent", room.calls.get());
 }
