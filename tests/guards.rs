@@ -102,20 +102,42 @@ extern "C" fn touched(_: c_int) {
     std::process::exit(1);
 }
 
-// Pages for the results, for a short table or line, for a long one, and for a file; and how many calls were made.
-struct Room {
-    results: Pages,
+// Pages for something short and for something long: the fewer there are, the sooner they are protected.
+struct Lending {
     short: Pages,
     long: Pages,
-    files: Pages,
+}
+
+impl Lending {
+    fn new() -> Lending {
+        Lending { short: Pages::for_bytes(4_096), long: Pages::for_bytes(1 << 20) }
+    }
+
+    fn lay<T: Copy>(&self, values: &[T], guard: Guard, protection: c_int) -> *mut T {
+        let pages = if size_of_val(values) <= self.short.bytes { &self.short } else { &self.long };
+        pages.lay(values, guard, protection)
+    }
+
+    // What lies in a slice that was laid, after a call that may not have been allowed to read it.
+    fn left<T: Copy>(&self, slice: *const T, length: usize) -> Vec<T> {
+        let pages = if length * size_of::<T>() <= self.short.bytes { &self.short } else { &self.long };
+        pages.allow(PROT_READ);
+        left(slice, length)
+    }
+}
+
+// Pages for the results, for a table or a line, and for a file; and how many calls were made.
+struct Room {
+    results: Pages,
+    tables: Lending,
+    files: Lending,
     calls: Cell<u64>,
 }
 
 impl Room {
     // Lays a table or a line.
     fn lay<T: Copy>(&self, values: &[T], guard: Guard, protection: c_int) -> *mut T {
-        let pages = if size_of_val(values) <= self.short.bytes { &self.short } else { &self.long };
-        pages.lay(values, guard, protection)
+        self.tables.lay(values, guard, protection)
     }
 
     // One question, with a result slice of every length up to two places more than enough, against either guard. What is due is given by the length.
@@ -253,8 +275,7 @@ fn write_card(room: &Room, [w, h, kind]: [u32; 3], table: &[u32], bytes: usize) 
         let (lent, file) = (room.lay(table, guard, kept), room.files.lay(&before, guard, written));
         let returned = unsafe { raw::uvalinda_write_card(w, h, kind, lent, table.len(), file, bytes) };
         assert_eq!(returned, refusal as u32, "{asked}");
-        room.files.allow(PROT_READ);
-        assert!(left(file, bytes) == after, "the file after {asked}");
+        assert!(room.files.left(file, bytes) == after, "the file after {asked}");
         room.calls.set(room.calls.get() + 1);
     }
 }
@@ -271,9 +292,8 @@ fn read_card(room: &Room, [w, h, kind]: [u32; 3], file: &[u8], places: usize) {
         let (written, kept) = protections(refusal, answered);
         let (lent, table) = (room.files.lay(file, guard, kept), room.lay(&before, guard, written));
         let returned = unsafe { raw::uvalinda_read_card(w, h, kind, lent, file.len(), table, places, result, length) };
-        room.short.allow(PROT_READ);
-        room.long.allow(PROT_READ);
-        assert!(left(table, places) == *(if answered { &held } else { &before }), "the table after {what}, {length} places for the result, guard: {guard:?}");
+        let after = if answered { &held } else { &before };
+        assert!(room.tables.left(table, places) == *after, "the table after {what}, {length} places for the result, guard: {guard:?}");
         returned
     };
     room.ask::<u64>(&what, 1, |length| expected::left(refusal as u32, &[block], length), call);
@@ -463,13 +483,7 @@ fn main() {
         // SAFETY: no call of the library is made while the text for the message is written.
         unsafe { signal(number, touched) };
     }
-    let room = Room {
-        results: Pages::for_bytes(4_096),
-        short: Pages::for_bytes(4_096),
-        long: Pages::for_bytes(1 << 20),
-        files: Pages::for_bytes(1 << 20),
-        calls: Cell::new(0),
-    };
+    let room = Room { results: Pages::for_bytes(4_096), tables: Lending::new(), files: Lending::new(), calls: Cell::new(0) };
     for (w, h) in (0..=12).flat_map(|w| (0..=12).map(move |h| (w, h))) {
         small_area(&room, Area::new(w, h));
         windows(&room, Area::new(w.max(1), h.max(1)));
