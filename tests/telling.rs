@@ -1,18 +1,22 @@
-// telling: every case of the division's three tables, the worked cases, the telling ones and the single cuts, is as the independent program has it. The
-// tables are read as text, and what is not understood there is an error.
+// telling: every case of the division's three tables, the worked cases, the telling ones and the single cuts, is as the independent program has it, and so is
+// every worked card. They are read as text, and what is not understood there is an error.
 #[allow(dead_code)] // lookups, checks and order lines are not needed here
 mod independent;
 
 use independent::{Block, Direction, Square};
 use std::fs;
 
-// The words of a table: what follows `NAME =` down to an empty line, without comments, and each bracket a word of its own.
-fn words(path: &str, name: &str) -> Vec<String> {
+// The words of some lines, without comments, and each bracket a word of its own.
+fn words<'a>(lines: impl Iterator<Item = &'a str>) -> Vec<String> {
+    let cases: Vec<&str> = lines.filter(|line| !line.trim_start().starts_with("--")).collect();
+    cases.join(" ").replace('(', " ( ").replace(')', " ) ").split_whitespace().map(String::from).collect()
+}
+
+// The words of a table: what follows `NAME =` down to an empty line.
+fn words_of_table(path: &str, name: &str) -> Vec<String> {
     let text = fs::read_to_string(path).expect("the table can be read");
     let head = format!("{name} =");
-    let table = text.lines().skip_while(|line| *line != head).skip(1).take_while(|line| !line.is_empty());
-    let cases: Vec<&str> = table.filter(|line| !line.trim_start().starts_with("--")).collect();
-    cases.join(" ").replace('(', " ( ").replace(')', " ) ").split_whitespace().map(String::from).collect()
+    words(text.lines().skip_while(|line| *line != head).skip(1).take_while(|line| !line.is_empty()))
 }
 
 // What is still to be read of a table.
@@ -133,7 +137,7 @@ impl<'a> Reader<'a> {
 
 // Compares each case of a table, and says how many there are.
 fn compared(path: &str, name: &str) -> usize {
-    let all = words(path, name);
+    let all = words_of_table(path, name);
     let mut reader = Reader { path, left: &all };
     let mut count = 0;
     while !reader.at("[]") {
@@ -148,8 +152,35 @@ fn compared(path: &str, name: &str) -> usize {
     count
 }
 
+// A card as the worked ones have it: of each block the content in use, the count and the check.
+fn card_in_short(w: i64, h: i64, kind: i64) -> Vec<i64> {
+    let words = independent::card_words(&[1, w, h, kind].map(|word| word as u32), &independent::table_due(w, h, kind == 2));
+    let short = |block: &[u32]| [&block[..block[126] as usize], &block[126..]].concat();
+    words.chunks(independent::BLOCK_WORDS).flat_map(short).map(i64::from).collect()
+}
+
+// Compares every worked card, `cards W H KIND (words)`, wherever it stands in the file, and says how many there are.
+fn compared_cards(path: &str) -> usize {
+    let text = fs::read_to_string(path).expect("the worked cards can be read");
+    let all = words(text.lines());
+    let is_number = |word: &String| word.parse::<i64>().is_ok();
+    let starts = (0..all.len()).filter(|&i| all[i] == "cards" && all[i + 1..].first().is_some_and(is_number));
+    let mut count = 0;
+    for start in starts {
+        let mut reader = Reader { path, left: &all[start + 1..] };
+        let ((w, h), kind) = (reader.pair(), reader.number());
+        assert!(independent::accepted(w, h).is_ok() && (1..=2).contains(&kind), "{path}: there is no card of {w} by {h}, kind {kind}");
+        let worked = reader.bracketed(|r| r.list(Reader::number));
+        assert!(worked == card_in_short(w, h, kind), "{path}: otherwise by the independent program: the card of {w} by {h}, kind {kind}");
+        count += 1;
+    }
+    assert!(count >= 5, "{path}: only {count} worked cards were found");
+    count
+}
+
 fn main() {
     let tables = [("Worked", "worked"), ("Telling", "telling"), ("SingleCuts", "single-cuts")];
     let count: usize = tables.iter().map(|(file, name)| compared(&format!("crates/division/specs/Division/{file}.antt"), name)).sum();
-    println!("telling: {count} cases of the three tables, as the independent program has them");
+    let cards = compared_cards("crates/cards/specs/Worked.antt");
+    println!("telling: {count} cases of the three tables, and {cards} worked cards, as the independent program has them");
 }
