@@ -7,7 +7,7 @@
 
 #include <stdarg.h>
 
-enum { WORDS = 128, PLACES = 1024 };
+enum { WORDS = 512, PLACES = 1024, BYTES = 4096 };
 
 /* A word of a vector as the bytes that it stands for. Those of a word that is no number may hold a byte 0. */
 typedef struct {
@@ -133,6 +133,75 @@ static void check(int by_square, int count) {
     }
 }
 
+static void card_length(void) {
+    uint64_t bytes[UVALINDA_CARD_LENGTH_PLACES];
+    uint32_t refusal = uvalinda_card_length(u(1), u(2), bytes, UVALINDA_CARD_LENGTH_PLACES);
+    refusal == UVALINDA_ANSWERED ? say("%llu", (unsigned long long)bytes[0]) : say("refused %u", refusal);
+}
+
+/* The bytes of a file that the words from one on stand for; how many there are. */
+static size_t read_file(int from, int count, uint8_t *file) {
+    size_t length = 0;
+    memset(file, 0, BYTES);
+    for (int i = from; i < count; i++) {
+        const char *word = words[i].bytes;
+        if (strncmp(word, "0*", 2) == 0) {
+            length += 4 * (size_t)atoi(word + 2);
+        } else if (word[0] == 'x') {
+            for (size_t j = 1; j + 1 < words[i].length; j += 2) {
+                char digits[3] = {word[j], word[j + 1], 0};
+                file[length++] = (uint8_t)strtol(digits, NULL, 16);
+            }
+        } else {
+            for (int byte = 0; byte < 4; byte++) {
+                file[length++] = (uint8_t)(u(i) >> 8 * byte);
+            }
+        }
+    }
+    return length;
+}
+
+static uint32_t word_at(const uint8_t *file, size_t at) {
+    return file[at] | (uint32_t)file[at + 1] << 8 | (uint32_t)file[at + 2] << 16 | (uint32_t)file[at + 3] << 24;
+}
+
+/* A file of whole words as the vectors have it. */
+static void say_file(const uint8_t *file, size_t length) {
+    for (size_t at = 0; at < length;) {
+        size_t zeros = 0;
+        while (at + 4 * zeros < length && word_at(file, at + 4 * zeros) == 0) {
+            zeros++;
+        }
+        say(at == 0 ? "" : " ");
+        zeros > 1 ? say("0*%zu", zeros) : say("%u", word_at(file, at));
+        at += 4 * (zeros > 1 ? zeros : 1);
+    }
+}
+
+static void write_card(int count) {
+    static uint32_t table[PLACES];
+    static uint8_t file[BYTES];
+    size_t bytes = u(4);
+    for (int i = 5; i < count; i++) {
+        table[i - 5] = u(i);
+    }
+    memset(file, 7, sizeof file);
+    uint32_t refusal = uvalinda_write_card(u(1), u(2), u(3), table, (size_t)(count - 5), file, bytes);
+    refusal == UVALINDA_ANSWERED ? say_file(file, bytes) : say("refused %u", refusal);
+}
+
+static void read_card(int count) {
+    static uint32_t table[PLACES];
+    static uint8_t file[BYTES];
+    uint64_t block[UVALINDA_READ_PLACES];
+    size_t bytes = read_file(5, count, file), places = u(4);
+    uint32_t refusal = uvalinda_read_card(u(1), u(2), u(3), file, bytes, table, places, block, UVALINDA_READ_PLACES);
+    say_all(refusal, table, places);
+    if (refusal == UVALINDA_BAD_CHECK) {
+        say(" %llu", (unsigned long long)block[0]);
+    }
+}
+
 /* A reply of each kind as the file names it, with so many values. */
 static void line(void) {
     static const struct {
@@ -162,6 +231,12 @@ static void answered(int count) {
         fill(strcmp(name + 8, "square") == 0);
     } else if (strncmp(name, "check_by_", 9) == 0) {
         check(strcmp(name + 9, "square") == 0, count);
+    } else if (strcmp(name, "card_length") == 0) {
+        card_length();
+    } else if (strcmp(name, "write_card") == 0) {
+        write_card(count);
+    } else if (strcmp(name, "read_card") == 0) {
+        read_card(count);
     } else if (strcmp(name, "handle_line") == 0) {
         line();
     } else {

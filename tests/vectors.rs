@@ -15,10 +15,14 @@ const READ_SO: &str = "\
 #   room places w h ox oy x0 y0 x1 y1 = the same with a slice of so many places; at refusal 11 also how many runs there are
 #   fill_by_number w h places = blocks and the table; fill_by_square likewise
 #   check_by_number w h table = right, or wrong and the place and the value due; check_by_square likewise
+#   card_length w h = bytes
+#   write_card w h kind bytes table = the file; the one that is lent has so many bytes
+#   read_card w h kind places file = the table; the one that is lent has so many places; at refusal 14 also the index of the block
 #   handle_line w h ox oy line = w h ox oy of the area in force after the line, and the reply; 0 0 0 0 is none
 # Where it is refused, the word refused and the number are due. `text` before a call: its arguments are given as text, and each is read as a field of a line;
 # one that is not a number is refused with 5 before anything else. `wide` before a call: an argument is an integer that a C call cannot be given, and is
-# refused as one that is too far off. No vector has refusal 9: it is proved that it never comes.";
+# refused as one that is too far off. No vector has refusal 9: it is proved that it never comes.
+# A file is words of 32 bits, each with its least byte first; 0*k is k words of 0, k over 1, and x with digits behind it bytes in hexadecimal.";
 
 const SMALL: [(i64, i64); 12] = [(1, 1), (1, 5), (5, 1), (2, 2), (3, 2), (4, 2), (3, 3), (4, 3), (5, 2), (3, 4), (7, 4), (40, 33)];
 const LARGE: [(i64, i64); 5] = [(4096, 4096), (8192, 2048), (65535, 256), (65535, 1), (1, 65535)];
@@ -205,6 +209,135 @@ fn print_check(kind: &str, w: i64, h: i64, by_square: bool, table: &[u32]) {
     println!("check_by_{kind} {w} {h}{} = {due}", table.iter().map(|n| format!(" {n}")).collect::<String>());
 }
 
+// A file as words, with those of 0 in a row as one, and the bytes that make no word.
+fn file_words(file: &[u8]) -> String {
+    let (whole, rest) = file.split_at(file.len() - file.len() % 4);
+    let numbers: Vec<u32> = whole.chunks(4).map(|bytes| u32::from_le_bytes(bytes.try_into().expect("four bytes"))).collect();
+    let row = |row: &[u32]| match row {
+        [0, 0, ..] => format!("0*{}", row.len()),
+        _ => words(row.iter().map(|n| *n as i64)),
+    };
+    let mut all: Vec<String> = numbers.chunk_by(|one, next| one == next && *one == 0).map(row).collect();
+    if !rest.is_empty() {
+        all.push(rest.iter().fold("x".to_string(), |hex, byte| format!("{hex}{byte:02x}")));
+    }
+    all.join(" ")
+}
+
+// What a card's call is told: w, h and the kind.
+type Told = [i64; 3];
+
+fn print_write(told: Told, bytes: usize, table: &[u32]) {
+    let [w, h, kind] = told;
+    let due = match independent::write_card(w, h, kind, table, bytes) {
+        Ok(()) => file_words(&independent::card(w, h, kind)),
+        Err(refusal) => format!("refused {refusal}"),
+    };
+    println!("write_card {} {bytes}{} = {due}", words(told), table.iter().map(|n| format!(" {n}")).collect::<String>());
+}
+
+fn print_read(told: Told, places: usize, file: &[u8]) {
+    let [w, h, kind] = told;
+    let due = match independent::read_card(w, h, kind, file, places) {
+        Ok(()) => words(independent::table_due(w, h, kind == 2).into_iter().map(i64::from)),
+        Err((14, block)) => format!("refused 14 {block}"),
+        Err((refusal, _)) => format!("refused {refusal}"),
+    };
+    let shown = if file.is_empty() { String::new() } else { format!(" {}", file_words(file)) };
+    println!("read_card {} {places}{shown} = {due}", words(told));
+}
+
+// A file of blocks, each by the words that it has in use.
+fn blocks(of: &[&[u32]]) -> Vec<u8> {
+    of.iter().flat_map(|used| independent::little_endian(&independent::card_words(used, &[]))).collect()
+}
+
+// The card of 3 by 4 by number with one word made another, its check put right or not.
+fn changed(at: usize, value: u32, mended: bool) -> Vec<u8> {
+    let mut words = independent::card_words(&[1, 3, 4, 1], &independent::table_due(3, 4, false));
+    words[at] = value;
+    let block = &mut words[at / 128 * 128..][..128];
+    if mended {
+        block[127] = independent::check_of(&block[..127]);
+    }
+    independent::little_endian(&words)
+}
+
+// Cards of every kind of length, written and read; then the card of 3 by 4 by number, with everything that it can be refused for.
+fn cards() {
+    let lengths = [(1, 1), (3, 4), (125, 1), (126, 1), (127, 1), (252, 1), (253, 1), (40, 33)];
+    for (w, h) in lengths.into_iter().chain(LARGE).chain(REFUSED) {
+        println!("card_length {w} {h} = {}", due(independent::card_length(w, h)));
+    }
+    for told in [(1, 1), (1, 5), (5, 2), (3, 4), (14, 9), (127, 1)].into_iter().flat_map(|(w, h)| [[w, h, 1], [w, h, 2]]) {
+        let (table, file) = (independent::table_due(told[0], told[1], told[2] == 2), independent::card(told[0], told[1], told[2]));
+        print_write(told, file.len(), &table);
+        print_read(told, table.len(), &file);
+    }
+    let (told, table, file) = ([3, 4, 1], independent::table_due(3, 4, false), independent::card(3, 4, 1));
+    for bytes in [0, 512, 1023, 1025, 1536] {
+        print_write(told, bytes, &table);
+    }
+    print_write(told, 1024, &table[1..]);
+    print_write(told, 1024, &[&table[..], &[0]].concat());
+    for (place, value) in [(0, 1), (5, 8), (11, u32::MAX)] {
+        print_write(told, 1024, &[&table[..place], &[value], &table[place + 1..]].concat());
+    }
+    for kind in [2, 0, 3, 257, u32::MAX] {
+        let told = [3, 4, kind.into()];
+        print_write(told, 1024, &table);
+        print_write(told, 1023, &table);
+        print_read(told, 12, &file);
+        print_read(told, 12, &changed(3, kind, true));
+        print_read(told, 12, &changed(3, kind, false));
+    }
+    for (w, h) in REFUSED.into_iter().step_by(2) {
+        print_write([w, h, 3], 0, &[0, 1, 2]);
+        print_read([w, h, 3], 3, &file[..516]);
+    }
+    for places in [0, 11, 13] {
+        print_read(told, places, &changed(0, 2, false));
+    }
+    departing(told, &table, &file);
+}
+
+// What a reader of that card is lent: other words, with the check put right or not, other lengths, and other blocks.
+fn departing(told: Told, table: &[u32], file: &[u8]) {
+    let of_head = [(0, 0), (0, 2), (1, 4), (2, 3), (3, 2), (3, 0), (4, 1), (125, 1), (126, 3), (126, 5)];
+    let of_table = [(128, 1), (133, 8), (139, u32::MAX), (140, 1), (253, 1), (254, 11), (254, 13), (254, 48), (254, 127), (254, u32::MAX)];
+    for (at, value) in of_head.into_iter().chain(of_table) {
+        print_read(told, 12, &changed(at, value, true));
+    }
+    for (at, value) in [(0, 2), (125, 1), (126, 5), (127, 13), (127, 0), (128, 1), (253, 1), (254, 11), (255, 78), (255, u32::MAX)] {
+        print_read(told, 12, &changed(at, value, false));
+    }
+    for bytes in [0, 1, 4, 511, 512, 1020, 1023] {
+        print_read(told, 12, &file[..bytes]);
+    }
+    let (head, sealed) = file.split_at(512);
+    let (bad, empty) = ([0; 512], blocks(&[&[]]));
+    for behind in [&bad[..1], &bad[..511], &bad, &empty, sealed, &[&empty[..], &bad].concat()] {
+        print_read(told, 12, &[file, behind].concat());
+    }
+    let back = |words: &[u8]| words.chunks(4).flat_map(|word| word.iter().rev().copied()).collect::<Vec<u8>>();
+    let first: &[u32] = &[1, 3, 4, 1];
+    for other in [
+        [sealed, head].concat(),
+        [head, &empty, sealed].concat(),
+        [&empty[..], file].concat(),
+        [head, head, sealed].concat(),
+        blocks(&[first, &table[..6], &table[6..]]),
+        blocks(&[first, &table[..11]]),
+        blocks(&[&[1, 3, 4], table]),
+        blocks(&[&[first, table].concat()]),
+        back(file),
+        independent::card(4, 3, 1),
+        independent::card(12, 1, 1),
+    ] {
+        print_read(told, 12, &other);
+    }
+}
+
 fn print_line(area: Option<Area>, line: &[u8]) {
     let four = |area: Option<Area>| area.map_or([0; 4], |a| [a.w, a.h, a.ox, a.oy]);
     let (reply, after) = independent::answered(line, area);
@@ -306,6 +439,7 @@ fn main() {
     }
     rooms();
     tables();
+    cards();
     lines();
     texts();
     wides();
