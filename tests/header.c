@@ -131,6 +131,64 @@ static void tables(void) {
     EXPECT(uvalinda_check_by_square(3, 4, table, 12, judged, UVALINDA_CHECK_PLACES) == UVALINDA_ANSWERED && judged[0] == 0);
 }
 
+/* A word of a file. */
+static uint32_t word(const uint8_t *file, size_t at) {
+    const uint8_t *bytes = file + 4 * at;
+    return bytes[0] | (uint32_t)bytes[1] << 8 | (uint32_t)bytes[2] << 16 | (uint32_t)bytes[3] << 24;
+}
+
+/* What two depots do: the one writes a card of the table that it has, the other reads it into a table of its own. The room for the file is known beforehand, by
+ * the macro or by the call. */
+static void cards(void) {
+    static const uint32_t due[12] = {0, 3, 6, 9, 10, 11, 8, 7, 5, 4, 1, 2};
+    static const uint32_t head[6] = {1, 3, 4, UVALINDA_BY_NUMBER, 0, 0};
+    uint8_t file[UVALINDA_CARD_BYTES(3, 4)] = {7};
+    uint32_t table[12] = {9};
+    uint64_t bytes[UVALINDA_CARD_LENGTH_PLACES], block[UVALINDA_READ_PLACES];
+    EXPECT(uvalinda_card_length(3, 4, bytes, UVALINDA_CARD_LENGTH_PLACES) == UVALINDA_ANSWERED);
+    EXPECT(bytes[0] == 1024 && sizeof file == 1024);
+    EXPECT(UVALINDA_CARD_BYTES(14, 9) == 1024 && UVALINDA_CARD_BYTES(127, 1) == 1536 && UVALINDA_CARD_BYTES(2 + 1, 2 + 2) == 1024);
+    EXPECT(uvalinda_card_length(4096, 4096, bytes, UVALINDA_CARD_LENGTH_PLACES) == UVALINDA_ANSWERED);
+    EXPECT(bytes[0] == 68174848 && UVALINDA_CARD_BYTES(4096, 4096) == 68174848);
+    EXPECT(uvalinda_card_length(65535, 256, bytes, UVALINDA_CARD_LENGTH_PLACES) == UVALINDA_ANSWERED && bytes[0] == UVALINDA_CARD_BYTES(65535u, 256u));
+    EXPECT(uvalinda_card_length(0, 4, bytes, UVALINDA_CARD_LENGTH_PLACES) == UVALINDA_AREA_LIMIT && bytes[0] == 0);
+    EXPECT(uvalinda_card_length(4096, 4097, bytes, UVALINDA_CARD_LENGTH_PLACES) == UVALINDA_TOO_MANY_SQUARES);
+    EXPECT(uvalinda_card_length(3, 4, bytes, UVALINDA_CARD_LENGTH_PLACES - 1) == UVALINDA_SHORT_RESULT);
+
+    EXPECT(uvalinda_write_card(3, 4, UVALINDA_BY_SQUARE, due, 12, file, sizeof file) == UVALINDA_DEPARTURE && file[0] == 7);
+    EXPECT(uvalinda_write_card(3, 4, 0, due, 12, file, sizeof file) == UVALINDA_DEPARTURE && file[0] == 7);
+    EXPECT(uvalinda_write_card(3, 4, UVALINDA_BY_NUMBER, due, 11, file, sizeof file) == UVALINDA_TABLE_LENGTH);
+    EXPECT(uvalinda_write_card(3, 4, UVALINDA_BY_NUMBER, due, 12, file, sizeof file - 1) == UVALINDA_TABLE_LENGTH);
+    EXPECT(uvalinda_write_card(3, 4, 3, NULL, 0, NULL, 0) == UVALINDA_TABLE_LENGTH);
+    EXPECT(uvalinda_write_card(3, 0, UVALINDA_BY_NUMBER, due, 12, file, sizeof file) == UVALINDA_AREA_LIMIT);
+    EXPECT(uvalinda_write_card(4097, 4096, UVALINDA_BY_NUMBER, due, 12, file, sizeof file) == UVALINDA_TOO_MANY_SQUARES);
+    EXPECT(file[0] == 7 && file[1] == 0);
+    EXPECT(uvalinda_write_card(3, 4, UVALINDA_BY_NUMBER, due, 12, file, sizeof file) == UVALINDA_ANSWERED);
+    for (size_t i = 0; i < 6; i++) {
+        EXPECT(word(file, i) == head[i]);
+    }
+    for (size_t i = 0; i < 12; i++) {
+        EXPECT(word(file, 128 + i) == due[i]);
+    }
+    EXPECT(word(file, 126) == 4 && word(file, 127) == 14 && word(file, 254) == 12 && word(file, 255) == 79);
+
+    EXPECT(uvalinda_read_card(3, 4, UVALINDA_BY_NUMBER, file, sizeof file, table, 12, NULL, 0) == UVALINDA_SHORT_RESULT && table[0] == 9);
+    EXPECT(uvalinda_read_card(3, 4, UVALINDA_BY_SQUARE, file, sizeof file, table, 12, block, UVALINDA_READ_PLACES) == UVALINDA_DEPARTURE);
+    EXPECT(uvalinda_read_card(4, 3, UVALINDA_BY_NUMBER, file, sizeof file, table, 12, block, UVALINDA_READ_PLACES) == UVALINDA_DEPARTURE);
+    EXPECT(uvalinda_read_card(3, 4, UVALINDA_BY_NUMBER, file, sizeof file - 1, table, 12, block, UVALINDA_READ_PLACES) == UVALINDA_DEPARTURE);
+    EXPECT(uvalinda_read_card(3, 4, UVALINDA_BY_NUMBER, NULL, 0, table, 12, block, UVALINDA_READ_PLACES) == UVALINDA_DEPARTURE);
+    EXPECT(uvalinda_read_card(3, 4, UVALINDA_BY_NUMBER, file, sizeof file, table, 11, block, UVALINDA_READ_PLACES) == UVALINDA_TABLE_LENGTH);
+    EXPECT(uvalinda_read_card(65536, 1, UVALINDA_BY_NUMBER, file, sizeof file, table, 12, block, UVALINDA_READ_PLACES) == UVALINDA_AREA_LIMIT);
+    EXPECT(uvalinda_read_card(4096, 4097, 3, file, sizeof file, table, 12, block, UVALINDA_READ_PLACES) == UVALINDA_TOO_MANY_SQUARES);
+    EXPECT(block[0] == 0 && table[0] == 9);
+    file[600] = 1;
+    EXPECT(uvalinda_read_card(3, 4, UVALINDA_BY_NUMBER, file, sizeof file, table, 12, block, UVALINDA_READ_PLACES) == UVALINDA_BAD_CHECK);
+    EXPECT(block[0] == 1 && table[0] == 9);
+    file[600] = 0;
+    EXPECT(uvalinda_read_card(3, 4, UVALINDA_BY_NUMBER, file, sizeof file, table, 12, block, UVALINDA_READ_PLACES) == UVALINDA_ANSWERED);
+    EXPECT(block[0] == 0 && memcmp(table, due, sizeof due) == 0);
+}
+
 /* One line of an order form, under the area that the line before it left. */
 static uint32_t handle(const char *line, int64_t *now) {
     return uvalinda_handle_line((uint32_t)now[0], (uint32_t)now[1], (int32_t)now[2], (int32_t)now[3], (const uint8_t *)line, strlen(line), now,
@@ -181,6 +239,7 @@ int main(void) {
     limits();
     windows();
     tables();
+    cards();
     lines();
     return wrong;
 }
