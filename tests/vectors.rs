@@ -278,6 +278,7 @@ fn cards() {
     for bytes in [0, 512, 1023, 1025, 1536] {
         print_write(told, bytes, &table);
     }
+    print_write([3, 4, 3], 1023, &table);
     print_write(told, 1024, &table[1..]);
     print_write(told, 1024, &[&table[..], &[0]].concat());
     for (place, value) in [(0, 1), (5, 8), (11, u32::MAX)] {
@@ -286,7 +287,6 @@ fn cards() {
     for kind in [2, 0, 3, 257, u32::MAX] {
         let told = [3, 4, kind.into()];
         print_write(told, 1024, &table);
-        print_write(told, 1023, &table);
         print_read(told, 12, &file);
         print_read(told, 12, &changed(3, kind, true));
         print_read(told, 12, &changed(3, kind, false));
@@ -299,19 +299,20 @@ fn cards() {
         print_read(told, places, &changed(0, 2, false));
     }
     departing(told, &table, &file);
+    longer();
 }
 
 // What a reader of that card is lent: other words, with the check put right or not, other lengths, and other blocks.
 fn departing(told: Told, table: &[u32], file: &[u8]) {
-    let of_head = [(0, 0), (0, 2), (1, 4), (2, 3), (3, 2), (3, 0), (4, 1), (125, 1), (126, 3), (126, 5)];
-    let of_table = [(128, 1), (133, 8), (139, u32::MAX), (140, 1), (253, 1), (254, 11), (254, 13), (254, 48), (254, 127), (254, u32::MAX)];
+    let of_head = [(0, 0), (0, 2), (1, 4), (2, 3), (3, 2), (4, 1), (125, 1), (126, 3), (126, 5)];
+    let of_table = [(128, 1), (133, 8), (139, u32::MAX), (139, 1 << 31), (140, 1), (253, 1), (254, 11), (254, 13), (254, 48), (254, u32::MAX)];
     for (at, value) in of_head.into_iter().chain(of_table) {
         print_read(told, 12, &changed(at, value, true));
     }
     for (at, value) in [(0, 2), (125, 1), (126, 5), (127, 13), (127, 0), (128, 1), (253, 1), (254, 11), (255, 78), (255, u32::MAX)] {
         print_read(told, 12, &changed(at, value, false));
     }
-    for bytes in [0, 1, 4, 511, 512, 1020, 1023] {
+    for bytes in [0, 1, 511, 512, 1020, 1023] {
         print_read(told, 12, &file[..bytes]);
     }
     let (head, sealed) = file.split_at(512);
@@ -335,6 +336,26 @@ fn departing(told: Told, table: &[u32], file: &[u8]) {
         independent::card(12, 1, 1),
     ] {
         print_read(told, 12, &other);
+    }
+}
+
+// What a reader of a card with two blocks of table is lent: a wrong place and a bad check in either, the blocks exchanged, and the table packed otherwise.
+fn longer() {
+    let (told, table, file) = ([127, 1, 1], independent::table_due(127, 1, false), independent::card(127, 1, 1));
+    let head: &[u32] = &[1, 127, 1, 1];
+    let with = |place: usize| [&table[..place], &[7], &table[place + 1..]].concat();
+    let bad = |byte: usize| [&file[..byte], &[file[byte] ^ 1], &file[byte + 1..]].concat();
+    for other in [
+        independent::little_endian(&independent::card_words(head, &with(125))),
+        independent::little_endian(&independent::card_words(head, &with(126))),
+        bad(1023),
+        bad(1024),
+        [&file[..512], &file[1024..], &file[512..1024]].concat(),
+        [&file[..1024], &blocks(&[&[]]), &file[1024..]].concat(),
+        blocks(&[head, &table[..1], &table[1..]]),
+        file[..1024].to_vec(),
+    ] {
+        print_read(told, 127, &other);
     }
 }
 
