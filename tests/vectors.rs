@@ -327,6 +327,7 @@ fn departing(told: Told, table: &[u32], file: &[u8]) {
         [head, &empty, sealed].concat(),
         [&empty[..], file].concat(),
         [head, head, sealed].concat(),
+        [&changed(1, 4, true)[..512], &changed(128, 1, false)[512..]].concat(),
         blocks(&[first, &table[..6], &table[6..]]),
         blocks(&[first, &table[..11]]),
         blocks(&[&[1, 3, 4], table]),
