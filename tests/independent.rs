@@ -394,6 +394,7 @@ pub fn check_of(others: &[u32]) -> u32 {
 
 // A block that uses these words.
 fn sealed(content: &[u32]) -> Vec<u32> {
+    assert!(content.len() <= CONTENT, "a block has room for {CONTENT} words");
     let mut words = content.to_vec();
     words.resize(CONTENT, 0);
     words.push(content.len() as u32);
