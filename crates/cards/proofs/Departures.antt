@@ -44,6 +44,13 @@ pub record Says (w h kind : ℕ) (file : List ℕ) : Type 0 where
   -- a right table: place p is word p % 126 of the table's block p / 126
   pub table : (p : ℕ) → p < w * h → word file (128 * (1 + p / 126) + p % 126) ≡ getD (right-table w h kind) p 0
 
+-- "each block full but perhaps the last, none empty", of the words in use that such a file's blocks count
+pub full-but-the-last : {w h kind : ℕ} {file : List ℕ} → Says w h kind file → (b : ℕ) → b + 1 < (w * h + 125) / 126 → word file (128 * (1 + b) + 126) ≡ 126
+full-but-the-last {w} {h} s b l = s .count b (omega arith) ∙ (let z : min 126 (w * h - 126 * b) ≡ 126 = omega arith in z)
+
+pub none-empty : {w h kind : ℕ} {file : List ℕ} → Says w h kind file → (b : ℕ) → b < (w * h + 125) / 126 → 1 ≤ word file (128 * (1 + b) + 126)
+none-empty s b l = let is = s .count b l in omega arith
+
 -- .. and one of them not so: each is a departure.
 pub data Departs (w h kind : ℕ) (file : List ℕ) : Type 0 where
   other-length : (length file ≡ 512 * (1 + (w * h + 125) / 126) → ⊥) → Departs w h kind file

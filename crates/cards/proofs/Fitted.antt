@@ -20,15 +20,15 @@ use Rattle.terms.specs.Telling.{Tells}
 use Rattle.terms.proofs.Limits.{limits, both-accepted}
 use Rattle.terms.proofs.Refusals.{refusal-some}
 use Rattle.terms.proofs.Guards.{passed, refused-first, granted-first, untried}
-use Rattle.terms.proofs.Telling.{tells-same, one-test}
+use Rattle.terms.proofs.Telling.{tells-same, tells-one}
 use Rattle.sectors.specs.Sectors.{words-of, whole-blocks, first-bad-in}
 use Rattle.tables.specs.declared.CheckAnswer as CheckAnswers
 use Rattle.tables.specs.Tables.{some-deep, table-guards, unless-refused, due-by, check-at, check-figures}
 use Rattle.tables.proofs.Admitted.{not-deep, table-granted, kept, given}
-use Rattle.tables.proofs.PlaceByPlace.{due-length}
+use Rattle.tables.proofs.PlaceByPlace.{places-length, place-holds, due-length}
 use Rattle.tables.proofs.Promises.{right-fields, filled-then-right, check-one}
 use Rattle.layouts.specs.Layouts.{table-blocks, right-table, card-words, card, card-bytes}
-use Rattle.layouts.specs.Steps.{Room, table-word, Copied}
+use Rattle.layouts.specs.Steps.{Room, table-word, table-in}
 use Rattle.layouts.proofs.Accepting.{card-length, card-in-words, card-holds}
 use Rattle.cards.specs.Cards.{kind-known, write-guards, read-guards, write, read, file-after, table-after}
 use Rattle.cards.specs.Fitting.{says-right, write-on, read-on}
@@ -60,7 +60,7 @@ module _ (w h kind : ℕ) (ok : accepted w h ≡ true) where
 
       module _ (known : kind-known kind ≡ true) {r : Bool} (tells : Tells r (table ≡ right-table w h kind)) where
         test : same-numbers table (right-table w h kind) ≡ r
-        test = one-test (tells-same table (right-table w h kind)) tells
+        test = tells-one (tells-same table (right-table w h kind)) tells
 
         pub wrong-table : r ≡ false → Written-so (refused Departure 0) file
         wrong-table off =
@@ -92,7 +92,7 @@ module _ (w h kind : ℕ) (ok : accepted w h ≡ true) where
 
       module _ (known : kind-known kind ≡ true) {r : Bool} (tells : Tells r (file ≡ card w h kind)) where
         judged : same-numbers file (card w h kind) ≡ r
-        judged = one-test (tells-same file (card w h kind)) tells
+        judged = tells-one (tells-same file (card w h kind)) tells
 
         pub no-card : r ≡ false → Read-so (refused-with Departure (0 ∷ [])) table
         no-card off =
@@ -100,17 +100,19 @@ module _ (w h kind : ℕ) (ok : accepted w h ≡ true) where
                 sym (rw (eq-eqb (first-bad-in file) (whole-blocks file) none-bad, known, judged ∙ off)) in
             (is, kept-so Departure (0 ∷ []) (right-table w h kind) table is)
 
-        pub read-so : r ≡ true → {after : List ℕ} → length after ≡ w * h → Copied (words-of file) after (w * h) → Read-so (answered (0 ∷ [])) after
-        read-so on {after} size copied =
+        pub read-so : r ≡ true → {after : List ℕ} → after ≡ table-in (words-of file) (w * h) → Read-so (answered (0 ∷ [])) after
+        read-so on {after} copied =
             let is : read-on w h kind file ≡ answered (0 ∷ []) = rw (eq-eqb (first-bad-in file) (whole-blocks file) none-bad, known, judged ∙ on) in
             let limit = limits w h ok in
             let long = due-length w h (limit .w-least) (limit .h-least) (eqb kind 2) in
             let in-words : words-of file ≡ card-words w h kind (right-table w h kind) =
                 ap words-of (tells .0 on) ∙ card-in-words w h kind (right-table w h kind) in
-            let right : after ≡ right-table w h kind =
-                ext-getD 0 after (right-table w h kind) (size ∙ sym long)
-                (λ p l. copied p (omega arith) ∙ ap (λ (ws : List ℕ). table-word ws p) in-words ∙ card-holds w h kind (right-table w h kind) p (omega arith)) in
-            (sym is, right ∙ given (0 ∷ []) (right-table w h kind) table is)
+            let size = places-length (table-word (words-of file)) (w * h) in
+            let right : table-in (words-of file) (w * h) ≡ right-table w h kind =
+                ext-getD 0 (table-in (words-of file) (w * h)) (right-table w h kind) (size ∙ sym long)
+                (λ p l. place-holds (table-word (words-of file)) (w * h) p (omega arith)
+                ∙ ap (λ (ws : List ℕ). table-word ws p) in-words ∙ card-holds w h kind (right-table w h kind) p (omega arith)) in
+            (sym is, copied ∙ right ∙ given (0 ∷ []) (right-table w h kind) table is)
 
 -- the guards before: those of every call on a table
 module _ (w h kind : ℕ) where

@@ -86,6 +86,16 @@ read-then-written w h kind file table other e size =
         ((fits .0, (fits .1 .0, ap length is ∙ right-places w h ok kind)), (size ∙ ap length (asked .1 .1) ∙ card-has w h ok kind, (asked .1 .0, is))) in
     (done, answered-left (write w h kind (table-after w h kind file table) other) (card w h kind) other done ∙ sym (asked .1 .1))
 
+-- The table that is read is the one that the file has, word by word.
+pub read-is-the-files : (w h kind : ℕ) (file table : List ℕ) → read w h kind file table .refusal ≡ 0
+    → (p : ℕ) → p < w * h → getD (table-after w h kind file table) p 0 ≡ word file (128 * (1 + p / 126) + p % 126)
+read-is-the-files w h kind file table e p l =
+    let asked = read-answered w h kind file table .0 e in
+    let ok = fits-accepted (asked .0) in
+    ap (λ (t : List ℕ). getD t p 0) (answered-left (read w h kind file table) (right-table w h kind) table e)
+    ∙ sym (card-says w h ok kind .table p l)
+    ∙ ap (λ (f : List ℕ). word f (128 * (1 + p / 126) + p % 126)) (sym (asked .1 .1))
+
 kind-few : {kind : ℕ} → Kind kind → kind < past-32-bits
 kind-few (inl e) = omega arith
 kind-few (inr e) = omega arith

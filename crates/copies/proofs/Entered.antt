@@ -17,7 +17,8 @@ use Rattle.division.specs.Division.Inside.{Sized}
 use Rattle.division.proofs.EachSquareOnce.{length-curve}
 use Rattle.leaves.specs.Walk.{place, over, enter-one, filled-with, Fits}
 use Rattle.leaves.proofs.Entries.{enter-length, over-append}
-use Rattle.copies.specs.Copies.{image, copied, Agree, Tells, Held}
+use Rattle.terms.specs.Telling.{Tells}
+use Rattle.copies.specs.Copies.{image, copied, Agree, Held}
 
 -- the places before
 over-front : (m : ℕ) (t : List ℕ) (n : ℕ) (ps : List ℕ) → m ≤ n → take m (over (enter-one false) t n ps) ≡ take m t

@@ -1,4 +1,3 @@
 pub mod Entered
 pub mod Alike
 pub mod Siblings
-pub mod Promises

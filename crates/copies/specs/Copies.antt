@@ -31,10 +31,6 @@ Agree opposite c t from to n = (i : ℕ) → i < n → getD t (to + i) 0 ≡ ima
 abbrev pub Held : (w : ℕ) → List ℕ → Block → (from : ℕ) → Type 0
 Held w t k from = take (k .a * k .b) (drop from t) ≡ map (place w) (curve k)
 
--- A test tells whether something holds.
-abbrev pub Tells : Bool → Type 0 → Type 0
-Tells r P = (r ≡ true → P) × (P → r ≡ true)
-
 -- Block k, which has its room from `to` on, repeats block j, which stands in the table from `from` on, before it.
 pub record Again (w h : ℕ) (t : List ℕ) (j : Block) (from : ℕ) (k : Block) (to : ℕ) (opposite : Bool) : Type 0 where
   pub fits : Fits false w h (length t) k to

@@ -6,10 +6,11 @@ ghost use mathlib.Core.Path.{_≡_};
 ghost use Prim.Native.Nat.{_+_, _≤_};
 ghost use lib.ListN.{length};
 ghost use Rattle.terms.specs.Terms.{longest-side};
+ghost use Rattle.terms.specs.Telling.{Tells};
 ghost use Rattle.division.specs.Division.Inside.{Inside};
 ghost use Rattle.division.specs.Forms.{block};
 ghost use Rattle.leaves.specs.Walk.{place, filled-with};
-ghost use Rattle.copies.specs.Copies.{image, copied, Agree, Tells, Held, Again};
+ghost use Rattle.copies.specs.Copies.{image, copied, Agree, Held, Again};
 
 // A place of one block as the other has it. The difference c of two places may lie below 0: what wraps there wraps back.
 fn image_of(x: u32, c: u32, opposite: bool) -> u32

@@ -8,14 +8,15 @@ use native.Mathlib.Omega.{arith}
 use borrow.Author.Tests.{leb-true, leb-false, ltb-true, ltb-false}
 use lib.Dec.{leb, ltb}
 use lib.ListN.{length, getD, take, drop, length-drop, length-append, drop-of-length-le, List·getD-append}
-use lib.Seq.{sets, sets-eq, length-sets, take-all, drop-drop, getD-take, getD-append-add, length-take-le}
+use lib.Seq.{sets, sets-eq, length-sets, take-all, drop-drop, getD-take, getD-append-add, length-take-le, ext-getD}
 use Rattle.sectors.specs.Sectors.{words-of, bytes-of, sealed, packed}
 use Rattle.sectors.specs.Steps.{slice}
 use Rattle.sectors.proofs.Words.{Bytes, words-length, same-bytes}
 use Rattle.sectors.proofs.Entering.{sets-append, slice-length, slice-at}
 use Rattle.sectors.proofs.Packing.{sealed-length, packed-length}
+use Rattle.tables.proofs.PlaceByPlace.{places-length, place-holds}
 use Rattle.layouts.specs.Layouts.{head, table-blocks, card-words, card-of}
-use Rattle.layouts.specs.Steps.{table-word, in-use, Copied}
+use Rattle.layouts.specs.Steps.{table-word, in-use, table-in}
 
 -- a block's words are those in use
 pub used-all : (vs : List ℕ) (n b : ℕ) → length vs ≡ n → slice vs (126 * b) (in-use n b) ≡ slice vs (126 * b) 126
@@ -120,3 +121,9 @@ copied-more words table n b used long is some room before {now} step p most l = 
         ∙ entered-in table (126 * b) (slice words (128 * (1 + b)) used) j (omega arith) (omega arith)
         ∙ slice-at words (128 * (1 + b)) used j (omega arith)
         ∙ ap₂ (λ (k i : ℕ). getD words (128 * k + i) 0) block rest
+
+-- all are copied
+pub copied-all : (words table : List ℕ) (n : ℕ) → length table ≡ n → ((p : ℕ) → p < n → getD table p 0 ≡ table-word words p) → table ≡ table-in words n
+copied-all words table n long same =
+    ext-getD 0 table (table-in words n) (long ∙ sym (places-length (table-word words) n))
+    (λ p l. let below : p < n = omega arith in same p below ∙ sym (place-holds (table-word words) n p below))

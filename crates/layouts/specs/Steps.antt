@@ -7,6 +7,7 @@ use lib.ListN.{length, getD}
 use Rattle.division.specs.Division.{whole, curve}
 use Rattle.leaves.specs.Walk.{place}
 use Rattle.sectors.specs.Steps.{Has, Framed}
+use Rattle.tables.specs.Tables.{places}
 use Rattle.layouts.specs.Layouts.{head, table-blocks}
 
 -- A file with room for the card of a table of so many places.
@@ -49,6 +50,6 @@ Frames words places m = (b : ℕ) → b < m → Framed words (1 + b) (in-use pla
 abbrev pub Headed : (words : List ℕ) (w h kind : ℕ) → Type 0
 Headed words w h kind = Has words 0 (head w h kind) 0 4 × Framed words 0 4
 
--- The first n places of a table are those of a card's words.
-abbrev pub Copied : (words table : List ℕ) (n : ℕ) → Type 0
-Copied words table n = (p : ℕ) → p < n → getD table p 0 ≡ table-word words p
+-- The table of so many places that a card's words have.
+abbrev pub table-in : (words : List ℕ) (n : ℕ) → List ℕ
+table-in words n = places (table-word words) n

@@ -11,7 +11,7 @@ ghost use Rattle.terms.specs.Terms.{most-squares, Limits};
 ghost use Rattle.terms.specs.Telling.{Tells};
 ghost use Rattle.sectors.specs.Sectors.{words-of, sealed, packed, first-bad-in, whole-blocks};
 ghost use Rattle.layouts.specs.Layouts.{head, table-blocks, card-of, card, card-bytes};
-ghost use Rattle.layouts.specs.Steps.{Room, in-use, All-told, Right-told, Part-told, Below, Frames, Headed, Copied};
+ghost use Rattle.layouts.specs.Steps.{Room, in-use, All-told, Right-told, Part-told, Below, Frames, Headed, table-in};
 
 // How many entries are computed at a time to judge a card: 8 blocks of them, 4,032 bytes of stack.
 const AT_A_TIME: u32 = 1008;
@@ -181,7 +181,7 @@ pub fn write_table(file: &mut [u8], area: Area, kind: u32, table: &[u32])
 // A card's table, copied out.
 pub fn read_table(file: &[u8], table: &mut [u32], places: u32)
     requires { ⌜ Room (now file) places × (length (now table) ≡ places) × (places ≤ most-squares) ⌝ }
-    ensures { λ r. ⌜ Copied (words-of (now (file .entry))) (now (table .exit)) places ⌝ }
+    ensures { λ r. ⌜ now (table .exit) ≡ table-in (words-of (now (file .entry))) places ⌝ }
 {
     let blocks = blocks_for(places);
     for b in 0..blocks {

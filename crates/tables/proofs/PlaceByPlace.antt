@@ -21,7 +21,7 @@ use Rattle.leaves.specs.Walk.{place, over, enter-one, filled-with}
 use Rattle.leaves.proofs.Entries.{enter-length, place-below}
 use Rattle.copies.proofs.Entered.{numbers-entered}
 
-places-length : (f : ℕ → ℕ) (n : ℕ) → length (places f n) ≡ n
+pub places-length : (f : ℕ → ℕ) (n : ℕ) → length (places f n) ≡ n
 unfolding places
 places-length f zero = refl
 places-length f (suc n) = length-append (places f n) (f n ∷ []) ∙ ap (λ m. m + 1) (places-length f n) ∙ add-one n

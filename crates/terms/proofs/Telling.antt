@@ -76,8 +76,8 @@ pub tells-same : (xs ys : List ℕ) → Tells (same-numbers xs ys) (xs ≡ ys)
 tells-same xs ys = (same-so xs ys, λ e. subst (λ (zs : List ℕ). same-numbers xs zs ≡ true) e (so-same xs))
 
 -- two tests that tell of one thing are one
-pub one-test : {P : Type 0} {r s : Bool} → Tells r P → Tells s P → r ≡ s
-one-test {r = true} {s = true} t u = refl
-one-test {r = false} {s = false} t u = refl
-one-test {r = true} {s = false} t u = sym (u .1 (t .0 refl))
-one-test {r = false} {s = true} t u = t .1 (u .0 refl)
+pub tells-one : {P : Type 0} {r s : Bool} → Tells r P → Tells s P → r ≡ s
+tells-one {r = true} {s = true} t u = refl
+tells-one {r = false} {s = false} t u = refl
+tells-one {r = true} {s = false} t u = sym (u .1 (t .0 refl))
+tells-one {r = false} {s = true} t u = t .1 (u .0 refl)

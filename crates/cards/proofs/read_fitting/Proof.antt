@@ -72,7 +72,7 @@ returns-4 c = let start = c .before .before .before .before .before .before .bef
     let given = start .args in
     read-so (given .area .w) (given .area .h) (given .kind) (start .pre .0) (given .file .now) (given .table .now) (sym (c .before .before .before .before .before .before .before .before .before .before .first-bad .ensures) ∙ c .before .before .before .before .before .before .before .before .before .if1 .left)
     (sym (c .before .before .before .before .before .before .before .before .is-kind .ensures) ∙ not-false (c .before .before .before .before .before .before .before .before .is-kind .result) (c .before .before .before .before .before .before .before .if2 .left)) (c .before .before .before .before .before .before .is-card .ensures)
-    (not-false (c .before .before .before .before .before .before .is-card .result) (c .before .before .before .before .before .if3 .left)) (c .before .before .read-table .kept .1 .0 ∙ start .pre .1) (c .before .before .read-table .ensures)
+    (not-false (c .before .before .before .before .before .before .is-card .result) (c .before .before .before .before .before .if3 .left)) (c .before .before .read-table .ensures)
 
 pub read-fitting-spec : {M : Type 1} → statement M
 read-fitting-spec =

@@ -5,7 +5,8 @@ use Prim.Native.Nat.{ℕ, _+_, _-_, _≤_}
 use native.Mathlib.Omega.{arith}
 use lib.Dec.{eqb}
 use lib.ListN.{getD}
-use Rattle.copies.specs.Copies.{Agree, Tells}
+use Rattle.terms.specs.Telling.{Tells}
+use Rattle.copies.specs.Copies.{Agree}
 use Rattle.copies.proofs.Entered.{at-most-one, agree-more}
 use Rattle.copies.proofs.agree.Statement.{statement}
 use Rattle.copies.proofs.agree.Tie as tie

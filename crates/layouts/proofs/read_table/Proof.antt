@@ -7,7 +7,7 @@ use Rattle.sectors.specs.Sectors.{words-of}
 use Rattle.sectors.proofs.Words.{words-length}
 use Rattle.layouts.specs.Layouts.{table-blocks}
 use Rattle.layouts.specs.Steps.{table-word}
-use Rattle.layouts.proofs.Writing.{copied-more}
+use Rattle.layouts.proofs.Writing.{copied-more, copied-all}
 use Rattle.layouts.proofs.read_table.Statement.{statement}
 use Rattle.layouts.proofs.read_table.Tie as tie
 use Rattle.layouts.proofs.read_table.Reads as reads
@@ -114,7 +114,9 @@ returns : tie.Need-returns Inv-loop μ-loop
 returns c = let turn = c .before in
     let last = c .loop-test .left in
     let is = turn .loop .inv .1 in
-    λ p l. turn .loop .inv .3 p (omega arith) l
+    let start = turn .before .before .before .before in
+    copied-all (words-of (start .args .file .now)) (turn .loop .table) (start .args .places) (turn .loop .inv .2 ∙ start .pre .1)
+    (λ p l. turn .loop .inv .3 p (omega arith) l)
 
 pub read-table-spec : {M : Type 1} → statement M
 read-table-spec =
