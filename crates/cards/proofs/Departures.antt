@@ -258,9 +258,10 @@ module _ (w h : ℕ) (ok : accepted w h ≡ true) (kind : ℕ) where
 
     -- A file of bytes whose checks are right departs exactly if it is not the card.
     pub departs-exactly : Departs w h kind file ↔ (file ≡ card w h kind → ⊥)
-    departs-exactly =
-        (λ d is. says-all (subst⁻¹ (Says w h kind) is card-says) d,
-         λ other. by (verdict w h kind file) other)
+    departs-exactly = (
+      λ d is. says-all (subst⁻¹ (Says w h kind) is card-says) d,
+      λ other. by (verdict w h kind file) other,
+    )
       where
         by : Says w h kind file ⊎ Departs w h kind file → (file ≡ card w h kind → ⊥) → Departs w h kind file
         by (inl s) other = absurd (other (says-card s))

@@ -65,7 +65,7 @@ module _ (w h kind : ℕ) (ok : accepted w h ≡ true) where
         pub wrong-table : r ≡ false → Written-so (refused Departure 0) file
         wrong-table off =
             let is : refused Departure 0 ≡ write-on w h kind table file =
-                sym (rw (eq-eqb (length file) (card-bytes w h) size, shallow, known, test ∙ off)) in
+            sym (rw (eq-eqb (length file) (card-bytes w h) size, shallow, known, test ∙ off)) in
             (is, kept-so Departure [] (card w h kind) file is)
 
         pub written-so : r ≡ true → {after : List ℕ} → after ≡ card w h kind → Written-so (answered []) after
@@ -81,7 +81,7 @@ module _ (w h kind : ℕ) (ok : accepted w h ≡ true) where
     pub bad-block : {bad : ℕ} → bad ≡ first-bad-in file → (bad ≡ whole-blocks file → ⊥) → Read-so (refused-with BadCheck (bad ∷ [])) table
     bad-block {bad} is-bad other =
         let is : refused-with BadCheck (bad ∷ []) ≡ read-on w h kind file =
-            ap (λ (b : ℕ). refused-with BadCheck (b ∷ [])) is-bad ∙ sym (rw (ne-eqb (first-bad-in file) (whole-blocks file) (λ e. other (is-bad ∙ e)))) in
+        ap (λ (b : ℕ). refused-with BadCheck (b ∷ [])) is-bad ∙ sym (rw (ne-eqb (first-bad-in file) (whole-blocks file) (λ e. other (is-bad ∙ e)))) in
         (is, kept-so BadCheck (bad ∷ []) (right-table w h kind) table is)
 
     module _ (none-bad : first-bad-in file ≡ whole-blocks file) where
@@ -97,7 +97,7 @@ module _ (w h kind : ℕ) (ok : accepted w h ≡ true) where
         pub no-card : r ≡ false → Read-so (refused-with Departure (0 ∷ [])) table
         no-card off =
             let is : refused-with Departure (0 ∷ []) ≡ read-on w h kind file =
-                sym (rw (eq-eqb (first-bad-in file) (whole-blocks file) none-bad, known, judged ∙ off)) in
+            sym (rw (eq-eqb (first-bad-in file) (whole-blocks file) none-bad, known, judged ∙ off)) in
             (is, kept-so Departure (0 ∷ []) (right-table w h kind) table is)
 
         pub read-so : r ≡ true → {after : List ℕ} → after ≡ table-in (words-of file) (w * h) → Read-so (answered (0 ∷ [])) after
@@ -106,12 +106,12 @@ module _ (w h kind : ℕ) (ok : accepted w h ≡ true) where
             let limit = limits w h ok in
             let long = due-length w h (limit .w-least) (limit .h-least) (eqb kind 2) in
             let in-words : words-of file ≡ card-words w h kind (right-table w h kind) =
-                ap words-of (tells .0 on) ∙ card-in-words w h kind (right-table w h kind) in
+            ap words-of (tells .0 on) ∙ card-in-words w h kind (right-table w h kind) in
             let size = places-length (table-word (words-of file)) (w * h) in
             let right : table-in (words-of file) (w * h) ≡ right-table w h kind =
-                ext-getD 0 (table-in (words-of file) (w * h)) (right-table w h kind) (size ∙ sym long)
-                (λ p l. place-holds (table-word (words-of file)) (w * h) p (omega arith)
-                ∙ ap (λ (ws : List ℕ). table-word ws p) in-words ∙ card-holds w h kind (right-table w h kind) p (omega arith)) in
+            ext-getD 0 (table-in (words-of file) (w * h)) (right-table w h kind) (size ∙ sym long)
+            (λ p l. place-holds (table-word (words-of file)) (w * h) p (omega arith)
+            ∙ ap (λ (ws : List ℕ). table-word ws p) in-words ∙ card-holds w h kind (right-table w h kind) p (omega arith)) in
             (sym is, copied ∙ right ∙ given (0 ∷ []) (right-table w h kind) table is)
 
 -- the guards before: those of every call on a table
@@ -158,8 +158,8 @@ pub card-room : (w h : ℕ) → accepted w h ≡ true → (kind : ℕ) (file : L
 card-room w h ok kind file is =
     let limit = limits w h ok in
     let size : length file ≡ 512 * (1 + table-blocks (w * h)) =
-        ap length is ∙ card-length w h kind (right-table w h kind)
-        ∙ ap (λ (k : ℕ). 512 * (1 + table-blocks k)) (due-length w h (limit .w-least) (limit .h-least) (eqb kind 2)) in
+    ap length is ∙ card-length w h kind (right-table w h kind)
+    ∙ ap (λ (k : ℕ). 512 * (1 + table-blocks k)) (due-length w h (limit .w-least) (limit .h-least) (eqb kind 2)) in
     omega arith
 
 -- a check of a table tells whether it is the right one

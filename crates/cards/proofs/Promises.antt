@@ -32,7 +32,8 @@ use Rattle.cards.specs.declared.WriteAnswer as WriteAnswers
 use Rattle.cards.specs.declared.ReadAnswer as ReadAnswers
 use Rattle.cards.specs.Cards.{write, read, measure, file-after, table-after, length-figures, write-figures, read-figures}
 use Rattle.cards.specs.Cards.{write-at, file-after-at, read-at, table-after-at, measure-at}
-use Rattle.cards.proofs.Refused.{Kind, No-kind, Fits, First-bad, first-bad-is, write-answered, read-answered, read-refused-14, block-told, no-block-told, measure-answered}
+use Rattle.cards.proofs.Refused.{Kind, No-kind, Fits, First-bad, first-bad-is, write-answered, read-answered, read-refused-14, block-told}
+use Rattle.cards.proofs.Refused.{no-block-told, measure-answered}
 use Rattle.cards.proofs.Departures.{word, card-says}
 
 -- what is left: the card or the table where a call is answered, else what was lent
@@ -71,7 +72,7 @@ written-then-read w h kind table file other e size =
     let fits = asked .0 in
     let is : file-after w h kind table file ≡ card w h kind = answered-left (write w h kind table file) (card w h kind) file e in
     let done : read w h kind (file-after w h kind table file) other .refusal ≡ 0 =
-        read-answered w h kind (file-after w h kind table file) other .1 ((fits .0, (fits .1 .0, size)), (asked .1 .1 .0, is)) in
+    read-answered w h kind (file-after w h kind table file) other .1 ((fits .0, (fits .1 .0, size)), (asked .1 .1 .0, is)) in
     (done, answered-left (read w h kind (file-after w h kind table file) other) (right-table w h kind) other done ∙ sym (asked .1 .1 .1))
 
 pub read-then-written : (w h kind : ℕ) (file table other : List ℕ) → read w h kind file table .refusal ≡ 0 → length other ≡ length file
@@ -82,8 +83,8 @@ read-then-written w h kind file table other e size =
     let ok = fits-accepted fits in
     let is : table-after w h kind file table ≡ right-table w h kind = answered-left (read w h kind file table) (right-table w h kind) table e in
     let done : write w h kind (table-after w h kind file table) other .refusal ≡ 0 =
-        write-answered w h kind (table-after w h kind file table) other .1
-        ((fits .0, (fits .1 .0, ap length is ∙ right-places w h ok kind)), (size ∙ ap length (asked .1 .1) ∙ card-has w h ok kind, (asked .1 .0, is))) in
+    write-answered w h kind (table-after w h kind file table) other .1
+    ((fits .0, (fits .1 .0, ap length is ∙ right-places w h ok kind)), (size ∙ ap length (asked .1 .1) ∙ card-has w h ok kind, (asked .1 .0, is))) in
     (done, answered-left (write w h kind (table-after w h kind file table) other) (card w h kind) other done ∙ sym (asked .1 .1))
 
 -- The table that is read is the one that the file has, word by word.
@@ -109,8 +110,9 @@ one-changed-byte w h kind table fits known p v l byte other =
     let size = card-has w h ok kind in
     let file = set (card w h kind) p v in
     let same = length-set (card w h kind) p v in
+    let bytes = card-of-bytes w h (limits w h ok) kind (kind-few known) in
     let bad : first-bad-in file ≡ p / 512 =
-        one-byte (card w h kind) (card-of-bytes w h (limits w h ok) kind (kind-few known)) (omega arith) (card-good w h kind (right-table w h kind)) p v l byte other in
+    one-byte (card w h kind) bytes (omega arith) (card-good w h kind (right-table w h kind)) p v l byte other in
     let first : First-bad file (p / 512) = first-bad-is file (p / 512) .0 (bad, omega arith) in
     block-told w h kind file table (read-refused-14 w h kind file table .1 (fits, (p / 512, first))) (p / 512) first
 
@@ -123,11 +125,13 @@ kind-2 w h = refl
 
 -- "Origins are not stored": areas of the same lengths, whatever their origins are, have the same answers and the same cards.
 module _ (a b : Area) (wide : a .w ≡ b .w) (high : a .h ≡ b .h) (kind : ℕ) where
-  pub origin-unwritten : (table file : List ℕ) → (write-at a kind table file ≡ write-at b kind table file) × (file-after-at a kind table file ≡ file-after-at b kind table file)
+  pub origin-unwritten : (table file : List ℕ)
+      → (write-at a kind table file ≡ write-at b kind table file) × (file-after-at a kind table file ≡ file-after-at b kind table file)
   origin-unwritten table file =
       (ap₂ (λ (w h : ℕ). write w h kind table file) wide high, ap₂ (λ (w h : ℕ). file-after w h kind table file) wide high)
 
-  pub origin-unread : (file table : List ℕ) → (read-at a kind file table ≡ read-at b kind file table) × (table-after-at a kind file table ≡ table-after-at b kind file table)
+  pub origin-unread : (file table : List ℕ)
+      → (read-at a kind file table ≡ read-at b kind file table) × (table-after-at a kind file table ≡ table-after-at b kind file table)
   origin-unread file table =
       (ap₂ (λ (w h : ℕ). read w h kind file table) wide high, ap₂ (λ (w h : ℕ). table-after w h kind file table) wide high)
 
@@ -230,7 +234,7 @@ writes-nothing promise =
     let file = replicate {A = ℕ} 1024 0 in
     let size = length-replicate {A = ℕ} 1024 0 in
     let left : file-after 1 1 1 (right-table 1 1 1) file ≡ card 1 1 1 =
-        answered-left (write 1 1 1 (right-table 1 1 1) file) (card 1 1 1) file (written-there file size) in
+    answered-left (write 1 1 1 (right-table 1 1 1) file) (card 1 1 1) file (written-there file size) in
     let is : file ≡ card 1 1 1 = sym (promise 1 1 1 (right-table 1 1 1) file) ∙ left in
     let version : word (card 1 1 1) 0 ≡ 1 = card-says 1 1 one-square 1 .version in
     let none : word file 0 ≡ 0 = word-is file 0 (omega arith) in

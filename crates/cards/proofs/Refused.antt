@@ -18,7 +18,8 @@ use Rattle.terms.proofs.Limits.{both-accepted}
 use Rattle.terms.proofs.Refusals.{refusal-one}
 use Rattle.terms.proofs.Guards.{_and_, stands, never, told-at, silent-at, refused-silent}
 use Rattle.terms.proofs.Telling.{tells-same}
-use Rattle.terms.proofs.Meanings.{Lengths-within, Lengths-beyond, Squares-within, Squares-beyond, Meaning, Meanings, Fails-so, refused-in-numbers, answered-in-numbers}
+use Rattle.terms.proofs.Meanings.{Lengths-within, Lengths-beyond, Squares-within, Squares-beyond, Meaning, Meanings, Fails-so, refused-in-numbers}
+use Rattle.terms.proofs.Meanings.{answered-in-numbers}
 use Rattle.terms.proofs.Meanings.{equal, itself, lengths-mean, squares-mean, lengths-exactly, squares-exactly}
 use Rattle.sectors.specs.Sectors.{words-of, sum, check-of, good, first-bad, whole-blocks, first-bad-in}
 use Rattle.sectors.proofs.Checks.{good-at, found, only-found, not-beyond}
@@ -46,8 +47,10 @@ unknown-to false t e = (refl, e)
 pub kind-means : (kind : ℕ) → ((kind-known kind ≡ true) ↔ Kind kind) × ((kind-known kind ≡ false) ↔ No-kind kind)
 kind-means kind = (
   (λ e. ⊎-elim (λ a. inl (eqb-true kind 1 a)) (λ b. inr (eqb-true kind 2 b)) (known-to (eqb kind 1) (eqb kind 2) e), from),
-  (λ e. let p = unknown-to (eqb kind 1) (eqb kind 2) e in (eqb-false kind 1 (p .0), eqb-false kind 2 (p .1)),
-   λ p. rw (ne-eqb kind 1 (p .0)) (ne-eqb kind 2 (p .1))),
+  (
+    λ e. let p = unknown-to (eqb kind 1) (eqb kind 2) e in (eqb-false kind 1 (p .0), eqb-false kind 2 (p .1)),
+    λ p. rw (ne-eqb kind 1 (p .0)) (ne-eqb kind 2 (p .1)),
+  ),
 )
   where
     from : Kind kind → kind-known kind ≡ true
@@ -88,9 +91,10 @@ check-so : (file : List ℕ) (b : ℕ) → (good-at (words-of file) b ≡ true) 
 unfolding good
 check-so file b =
     let words = words-of file in
-    let due = check-of (take 127 (drop (128 * b) words)) in
-    (λ e. sym (getD-drop (128 * b) words 127 0) ∙ eqb-true (getD (drop (128 * b) words) 127 0) due e,
-     λ is. eq-eqb (getD (drop (128 * b) words) 127 0) due (getD-drop (128 * b) words 127 0 ∙ is))
+    let due = check-of (take 127 (drop (128 * b) words)) in (
+      λ e. sym (getD-drop (128 * b) words 127 0) ∙ eqb-true (getD (drop (128 * b) words) 127 0) due e,
+      λ is. eq-eqb (getD (drop (128 * b) words) 127 0) due (getD-drop (128 * b) words 127 0 ∙ is),
+    )
 
 check-not : (file : List ℕ) (b : ℕ) → (Check-right file b → ⊥) → good-at (words-of file) b ≡ false
 check-not file b wrong = by (good-at (words-of file) b) refl
@@ -104,24 +108,31 @@ module _ (file : List ℕ) where
   n = whole-blocks file
 
   pub none-bad : (first-bad-in file ≡ n) ↔ Checks-right file
-  none-bad =
-      (λ e b l. check-so file b .0 (found n (words-of file) .0 b (subst⁻¹ (λ (k : ℕ). b < k) e l)),
-       λ all. only-found n (words-of file) n (omega arith) ((λ b l. check-so file b .1 (all b l)), λ l. absurd (omega arith)))
+  none-bad = (
+    λ e b l. check-so file b .0 (found n (words-of file) .0 b (subst⁻¹ (λ (k : ℕ). b < k) e l)),
+    λ all. only-found n (words-of file) n (omega arith) ((λ b l. check-so file b .1 (all b l)), λ l. absurd (omega arith)),
+  )
 
   pub first-bad-is : (k : ℕ) → ((first-bad-in file ≡ k) × (k < n)) ↔ First-bad file k
-  first-bad-is k =
-      (λ p. (p .1,
-       ((λ b l. check-so file b .0 (found n (words-of file) .0 b (subst⁻¹ (λ (i : ℕ). b < i) (p .0) l))),
+  first-bad-is k = (
+    λ p. (
+      p .1,
+      (
+        (λ b l. check-so file b .0 (found n (words-of file) .0 b (subst⁻¹ (λ (i : ℕ). b < i) (p .0) l))),
         λ is. true≢false (sym (check-so file k .1 is) ∙ ap (good-at (words-of file)) (sym (p .0))
-        ∙ found n (words-of file) .1 (subst⁻¹ (λ (i : ℕ). i < n) (p .0) (p .1))))),
-       λ q. (only-found n (words-of file) k (let l = q .0 in omega arith) ((λ b l. check-so file b .1 (q .1 .0 b l)), λ l. check-not file k (q .1 .1)), q .0))
+            ∙ found n (words-of file) .1 (subst⁻¹ (λ (i : ℕ). i < n) (p .0) (p .1))),
+      ),
+    ),
+    λ q. (only-found n (words-of file) k (let l = q .0 in omega arith) ((λ b l. check-so file b .1 (q .1 .0 b l)), λ l. check-not file k (q .1 .1)), q .0),
+  )
 
   pub checks-mean : (eqb (first-bad-in file) n ≡ false) ↔ ((k : ℕ) × First-bad file k)
-  checks-mean =
-      (λ e. let other = eqb-false (first-bad-in file) n e in
-       let most = not-beyond n (words-of file) in
-       (first-bad-in file, first-bad-is (first-bad-in file) .0 (refl, omega arith)),
-       λ p. let is = first-bad-is (p .0) .1 (p .1) in ne-eqb (first-bad-in file) n (λ e. let l = is .1 in let z = is .0 in omega arith))
+  checks-mean = (
+    λ e. let other = eqb-false (first-bad-in file) n e in
+        let most = not-beyond n (words-of file) in
+        (first-bad-in file, first-bad-is (first-bad-in file) .0 (refl, omega arith)),
+    λ p. let is = first-bad-is (p .0) .1 (p .1) in ne-eqb (first-bad-in file) n (λ e. let l = is .1 in let z = is .0 in omega arith),
+  )
 
   abbrev pub check-mean : Meaning (eqb (first-bad-in file) (whole-blocks file))
   check-mean = record {

@@ -1,4 +1,5 @@
--- A file is a card exactly if it has a card's length, its blocks' frames and checks, its head and its table: each from the file's words, and the words from them.
+-- A file is a card exactly if it has a card's length, its blocks' frames and checks, its head and its table: each follows from the file's words, and the words
+-- from them.
 use mathlib.Core.Bool.{Bool, true, false, not, cond}
 use mathlib.Core.List.{List, [], _∷_, _++_}
 use mathlib.Core.Path.{_≡_, refl, sym, ap, ap₂, subst, subst⁻¹, _∙_}
@@ -15,7 +16,8 @@ use Rattle.sectors.specs.Steps.{slice, Has, Framed}
 use Rattle.sectors.proofs.Words.{Bytes, words-length, words-back, bytes-length, same-bytes}
 use Rattle.sectors.proofs.Entering.{slice-at}
 use Rattle.sectors.proofs.Checks.{good-at, found, only-found}
-use Rattle.sectors.proofs.Packing.{sealed-length, block-is, block-has, block-framed, block-good, few-taken, packed-length, packed-block, slice-join, blocks-packed}
+use Rattle.sectors.proofs.Packing.{sealed-length, block-is, block-has, block-framed, block-good, few-taken, packed-length, packed-block, slice-join}
+use Rattle.sectors.proofs.Packing.{blocks-packed}
 use Rattle.tables.specs.Tables.{due-by}
 use Rattle.tables.proofs.PlaceByPlace.{ps-length, values-below, due-there, looked-for, looked-below, looked-at, due-length}
 use Rattle.layouts.specs.Layouts.{head, table-blocks, card-words, card-of, right-table, card, card-bytes}

@@ -24,7 +24,7 @@ module _ (w h : ℕ) (t : Limits w h) where
       let below = looked-below w h (t .w-least) (t .h-least) by p l in
       let there : cond by (getD (entries w h) j 0) j ≡ p = looked-at w h (t .w-least) (t .h-least) by p l j refl in
       let is : getD (due-by by w h) p 0 ≡ cond by j (getD (entries w h) j 0) =
-          ap (λ (q : ℕ). getD (due-by by w h) q 0) (sym there) ∙ due-there w h (t .w-least) (t .h-least) j below j refl by in
+      ap (λ (q : ℕ). getD (due-by by w h) q 0) (sym there) ∙ due-there w h (t .w-least) (t .h-least) j below j refl by in
       let both = values-below w h (t .w-least) (t .h-least) j below j refl in
       let under : cond by j (getD (entries w h) j 0) < w * h = either-below by (both .0) (both .1) in
       omega arith
@@ -49,4 +49,5 @@ module _ (w h : ℕ) (t : Limits w h) where
     card-of-bytes =
         small-bytes _
         (small-append (sealed (head w h kind)) (packed (table-blocks (length (right-table w h kind))) (right-table w h kind))
-        (small-sealed (head w h kind) (omega arith) small-head) (small-packed (table-blocks (length (right-table w h kind))) (right-table w h kind) small-table))
+        (small-sealed (head w h kind) (omega arith) small-head)
+        (small-packed (table-blocks (length (right-table w h kind))) (right-table w h kind) small-table))

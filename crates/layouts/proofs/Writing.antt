@@ -71,10 +71,10 @@ card-written w h kind table file places long bytes size words same {headed} is-h
     let all = sealed (head w h kind) ++ packed n table in
     let all-length : length all ≡ 128 * (1 + n) = length-append (sealed (head w h kind)) (packed n table) ∙ omega (arith, one, blocks) in
     let joined : words-of file ≡ all =
-        is
-        ∙ ap₂ (λ (ws : List ℕ) (k : ℕ). sets ws k (packed n table)) is-headed (let z : 128 ≡ 0 + length (sealed (head w h kind)) = omega arith in z)
-        ∙ sym (sets-append words 0 (sealed (head w h kind)) (packed n table))
-        ∙ all-set words all (omega (arith, all-length, same, size)) in
+    is
+    ∙ ap₂ (λ (ws : List ℕ) (k : ℕ). sets ws k (packed n table)) is-headed (let z : 128 ≡ 0 + length (sealed (head w h kind)) = omega arith in z)
+    ∙ sym (sets-append words 0 (sealed (head w h kind)) (packed n table))
+    ∙ all-set words all (omega (arith, all-length, same, size)) in
     same-bytes file all bytes (omega (arith, all-length, size)) joined
     ∙ ap (λ (k : ℕ). bytes-of (sealed (head w h kind) ++ packed (table-blocks k) table)) (sym long)
 

@@ -72,8 +72,16 @@ fn numbers_held(file: &[u8], first: u32, entries: &[u32], m: u32, places: u32) -
 }
 
 // Whether the file has what is due for m numbers from `first` on, whose entries are computed into a lent buffer.
-fn stretch_held(file: &[u8], area: Area, first: u32, m: u32, buffer: &mut [u32], by_square: bool) -> bool
-    requires { ⌜ Limits (area .w) (area .h) × Room (now file) (area .w * area .h) × (first % 126 ≡ 0) × (first + m ≤ area .w * area .h) × (m ≤ length (now buffer)) ⌝ }
+fn stretch_held(
+    file: &[u8],
+    area: Area,
+    first: u32,
+    m: u32,
+    buffer: &mut [u32],
+    by_square: bool,
+) -> bool
+    requires { ⌜ Limits (area .w) (area .h) × Room (now file) (area .w * area .h) × (first % 126 ≡ 0)
+        × (first + m ≤ area .w * area .h) × (m ≤ length (now buffer)) ⌝ }
     ensures { λ r. ⌜ Tells r (Part-told «by_square» (words-of (now (file .entry))) (area .w) (area .h) first m) ⌝ }
 {
     let e = m as usize;

@@ -7,7 +7,8 @@ use native.Mathlib.Omega.{arith}
 use borrow.Author.Tests.{eqb-true, eqb-false, eq-eqb, ne-eqb, ltb-true, ltb-false}
 use lib.Dec.{eqb, ltb}
 use lib.ListN.{length, getD, take, drop, set, length-set, length-drop}
-use lib.Seq.{getD-set-same, getD-set-other, set-getD, getD-take, getD-drop, take-take, take-set-lt, take-set-le, drop-set-add, drop-set-lt, length-take-le, ext-getD}
+use lib.Seq.{getD-set-same, getD-set-other, set-getD, getD-take, getD-drop, take-take, take-set-lt, take-set-le, drop-set-add, drop-set-lt, length-take-le}
+use lib.Seq.{ext-getD}
 use Rattle.terms.specs.Terms.{past-32-bits}
 use Rattle.sectors.specs.Sectors.{word-of, words-of, bytes-of, sum, check-of, good, first-bad, first-bad-in, whole-blocks}
 use Rattle.sectors.proofs.Words.{Bytes, words-length, word-is, word-small, bytes-back}
@@ -39,7 +40,7 @@ changed-bad words i v l room small small-v other right = by (ltb i 127) refl
         let m = ltb-true i 127 e in
         let long : length (take 127 words) ≡ 127 = length-take-le 127 words (omega arith) in
         let total : sum (take 127 (set words i v)) + getD words i 0 ≡ sum (take 127 words) + v =
-            ap₂ _+_ (ap sum (take-set-lt 127 words i v m)) (sym (getD-take 127 words i 0 m)) ∙ set-sum (take 127 words) i v (omega arith) in
+        ap₂ _+_ (ap sum (take-set-lt 127 words i v m)) (sym (getD-take 127 words i 0 m)) ∙ set-sum (take 127 words) i v (omega arith) in
         let last : getD (set words i v) 127 0 ≡ getD words 127 0 = getD-set-other words i 127 v 0 (λ z. omega arith) in
         ne-eqb (getD (set words i v) 127 0) (check-of (take 127 (set words i v)))
         (λ is. let equal : (1 + sum (take 127 words)) % past-32-bits ≡ (1 + sum (take 127 (set words i v))) % past-32-bits = sym was ∙ sym last ∙ is in
@@ -48,8 +49,12 @@ changed-bad words i v l room small small-v other right = by (ltb i 127) refl
         let m = ltb-false i 127 e in
         let there : i ≡ 127 = omega arith in
         ne-eqb (getD (set words i v) 127 0) (check-of (take 127 (set words i v)))
-        (λ is. other (ap (λ (k : ℕ). getD words k 0) there ∙ was
-        ∙ ap check-of (sym (take-set-le 127 words i v m)) ∙ sym is ∙ ap (λ (k : ℕ). getD (set words k v) 127 0) there ∙ getD-set-same words 127 v 0 (omega arith)))
+        (λ is. other (ap (λ (k : ℕ). getD words k 0) there
+        ∙ was
+        ∙ ap check-of (sym (take-set-le 127 words i v m))
+        ∙ sym is
+        ∙ ap (λ (k : ℕ). getD (set words k v) 127 0) there
+        ∙ getD-set-same words 127 v 0 (omega arith)))
 
 -- of blocks without a bad check, with one word changed, that word's is the first bad one
 module _ (words : List ℕ) (n i v : ℕ) (room : 128 * n ≤ length words) (l : i < 128 * n) (small : getD words i 0 < past-32-bits) (small-v : v < past-32-bits)
@@ -136,7 +141,7 @@ module _ (file : List ℕ) (p v : ℕ) (whole : length file % 4 ≡ 0) (l : p < 
         let same = same-length in
         let words : words-of (set file p v) ≡ words-of file = words-changed ∙ ap (set (words-of file) (p / 4)) (sym e) ∙ set-getD (words-of file) (p / 4) 0 in
         let all : set file p v ≡ file =
-            sym (bytes-back (set file p v) changed-bytes (omega arith)) ∙ ap bytes-of words ∙ bytes-back file bytes whole in
+        sym (bytes-back (set file p v) changed-bytes (omega arith)) ∙ ap bytes-of words ∙ bytes-back file bytes whole in
         other (ap (λ (f : List ℕ). getD f p 0) (sym all) ∙ getD-set-same file p v 0 l)
 
     new-small : new < past-32-bits

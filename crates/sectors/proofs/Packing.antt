@@ -7,8 +7,10 @@ use Prim.Native.Nat.{ℕ, zero, suc, _+_, _-_, _*_, _≤_, _<_}
 use native.Mathlib.Omega.{arith}
 use borrow.Author.Tests.{eqb-true, eq-eqb, ltb-true, ltb-false}
 use lib.Dec.{ltb}
-use lib.ListN.{length, getD, take, drop, replicate, length-append, length-replicate, length-drop, length-take, take-append-drop, List·getD-append, List·getD-eq-default}
-use lib.Seq.{take-suc, take-at, drop-at, getD-at, getD-take, getD-drop, drop-drop, take-take, take-append-add, take-append-le, take-all, length-take-le, ext-getD}
+use lib.ListN.{length, getD, take, drop, replicate, length-append, length-replicate, length-drop, length-take, take-append-drop, List·getD-append}
+use lib.ListN.{List·getD-eq-default}
+use lib.Seq.{take-suc, take-at, drop-at, getD-at, getD-take, getD-drop, drop-drop, take-take, take-append-add, take-append-le, take-all, length-take-le}
+use lib.Seq.{ext-getD}
 use Rattle.sectors.specs.Sectors.{check-of, counted, sealed, packed, good}
 use Rattle.sectors.specs.Steps.{slice, Has, Framed}
 use Rattle.sectors.proofs.Entering.{zero-at, slice-length, slice-at}
@@ -112,7 +114,7 @@ module _ (vs : List ℕ) (few : length vs ≤ 126) where
       unfolding good
       block-good =
           let others : take 127 (drop (128 * b) words) ≡ counted vs =
-              sym (take-take 127 128 (drop (128 * b) words) (omega arith)) ∙ ap (take 127) is ∙ summed in
+          sym (take-take 127 128 (drop (128 * b) words) (omega arith)) ∙ ap (take 127) is ∙ summed in
           eq-eqb (getD (drop (128 * b) words) 127 0) (check-of (take 127 (drop (128 * b) words)))
           (getD-drop (128 * b) words 127 0 ∙ word-of-it 127 (omega arith) ∙ check-at ∙ ap check-of (sym others))
 
@@ -164,4 +166,6 @@ blocks-packed words o (suc n) vs room all =
     ∙ ap₂ _++_ (ap (λ (k : ℕ). slice words (128 * k) 128) (let z : o ≡ o + 0 = omega arith in z) ∙ all 0 (omega arith))
     (ap (λ (k : ℕ). slice words k (128 * n)) (let z : 128 * o + 128 ≡ 128 * suc o = omega arith in z)
     ∙ blocks-packed words (suc o) n (drop 126 vs) (omega arith)
-    (λ b l. ap (λ (k : ℕ). slice words (128 * k) 128) (let z : suc o + b ≡ o + suc b = omega arith in z) ∙ all (suc b) (omega arith) ∙ ap sealed (sym (later vs b))))
+    (λ b l. ap (λ (k : ℕ). slice words (128 * k) 128) (let z : suc o + b ≡ o + suc b = omega arith in z)
+    ∙ all (suc b) (omega arith)
+    ∙ ap sealed (sym (later vs b))))

@@ -49,10 +49,10 @@ module _ (words vs : List ℕ) (b n : ℕ) (room : 128 * b + 128 ≤ length word
   block-written {content} {padded} is-content is-padded is =
       let at : 128 * b + n ≡ 128 * b + length vs = omega arith in
       let all : padded ≡ sets words (128 * b) full =
-          is-padded ∙ ap₂ (λ (ws : List ℕ) (k : ℕ). sets ws k (replicate {A = ℕ} (126 - n) 0)) is-content at
-          ∙ sym (sets-append words (128 * b) vs (replicate {A = ℕ} (126 - n) 0)) in
+      is-padded ∙ ap₂ (λ (ws : List ℕ) (k : ℕ). sets ws k (replicate {A = ℕ} (126 - n) 0)) is-content at
+      ∙ sym (sets-append words (128 * b) vs (replicate {A = ℕ} (126 - n) 0)) in
       let there : slice padded (128 * b) 126 ≡ full =
-          ap₂ (λ (ws : List ℕ) (k : ℕ). slice ws (128 * b) k) all (sym full-long) ∙ entered-there words (128 * b) full (let z = full-long in omega arith) in
+      ap₂ (λ (ws : List ℕ) (k : ℕ). slice ws (128 * b) k) all (sym full-long) ∙ entered-there words (128 * b) full (let z = full-long in omega arith) in
       let tail : List ℕ = n ∷ check-of (full ++ (n ∷ [])) ∷ [] in
       is
       ∙ ap₂ (λ (ws s : List ℕ). sets ws (128 * b + 126) (n ∷ check-of (s ++ (n ∷ [])) ∷ [])) all there
@@ -60,5 +60,5 @@ module _ (words vs : List ℕ) (b n : ℕ) (room : 128 * b + 128 ≤ length word
       ∙ sym (sets-append words (128 * b) full tail)
       ∙ ap (sets words (128 * b)) (sym (append-assoc full (n ∷ []) (check-of (full ++ (n ∷ [])) ∷ [])))
       ∙ ap (λ (k : ℕ). sets words (128 * b) (
-        (vs ++ replicate {A = ℕ} (126 - k) 0 ++ (k ∷ [])) ++ (check-of (vs ++ replicate {A = ℕ} (126 - k) 0 ++ (k ∷ [])) ∷ [])
+      (vs ++ replicate {A = ℕ} (126 - k) 0 ++ (k ∷ [])) ++ (check-of (vs ++ replicate {A = ℕ} (126 - k) 0 ++ (k ∷ [])) ∷ [])
       )) (sym long)

@@ -1,15 +1,12 @@
+-- `cards::is_kind` meets its contract: one of two tests.
 use mathlib.Core.Path.{sym}
 use borrow.Author.Tests.{eq-eqb, ne-eqb}
 use Rattle.cards.proofs.is_kind.Statement.{statement}
 use Rattle.cards.proofs.is_kind.Tie as tie
-use Rattle.cards.proofs.is_kind.Reads as reads
-use Rattle.cards.proofs.is_kind.Lts as lts
 
--- src/lib.rt:57:9
 returns : tie.Need-returns
 returns c = sym (rw (eq-eqb _ 1 (c .if1 .taken)))
 
--- src/lib.rt:53:1
 returns-2 : tie.Need-returns-2
 returns-2 c = sym (rw (ne-eqb _ 1 (c .if1 .left)))
 

@@ -1,7 +1,8 @@
-use borrow.Author.Needs.{needs}
+-- `layouts::frames_held` meets its contract. The invariant: the blocks before b have their frames; the measure is how many blocks are left.
+use mathlib.Core.Path.{_≡_, subst, sym}
+use Prim.Native.Nat.{ℕ, _+_, _-_, _≤_}
 use native.Mathlib.Omega.{arith}
-use mathlib.Core.Path.{_≡_, subst, sym, _∙_}
-use Prim.Native.Nat.{ℕ, _+_, _-_, _*_, _/_, _≤_}
+use borrow.Author.Needs.{needs}
 use Rattle.terms.proofs.Telling.{refuses, grants, said-no, said-yes, between-more}
 use Rattle.sectors.specs.Sectors.{words-of}
 use Rattle.sectors.specs.Steps.{Framed}
@@ -9,56 +10,23 @@ use Rattle.layouts.specs.Layouts.{table-blocks}
 use Rattle.layouts.specs.Steps.{in-use, Frames}
 use Rattle.layouts.proofs.frames_held.Statement.{statement}
 use Rattle.layouts.proofs.frames_held.Tie as tie
-use Rattle.layouts.proofs.frames_held.Reads as reads
-use Rattle.layouts.proofs.frames_held.Lts as lts
-use Rattle.layouts.proofs.blocks_for.Reads as blocks-for-reads
-use Rattle.layouts.proofs.lesser.Reads as lesser-reads
-use Rattle.sectors.proofs.is_framed.Reads as is-framed-reads
 
-abbrev Inv-loop : tie.InvT-loop
-Inv-loop file places blocks b₀ b = (b ≤ blocks) × (blocks ≡ table-blocks places) × Frames (words-of file) places b
+abbrev Inv-framed : tie.InvT-loop
+Inv-framed file places blocks b₀ b = (b ≤ blocks) × (blocks ≡ table-blocks places) × Frames (words-of file) places b
 
-abbrev μ-loop : tie.MeasureT-loop
-μ-loop file places blocks b₀ b = blocks - b
+abbrev μ-left : tie.MeasureT-loop
+μ-left file places blocks b₀ b = blocks - b
 
--- src/lib.rt:77:9
-blocks-for-requires : tie.Need-blocks-for-requires Inv-loop μ-loop
-blocks-for-requires c κs = search needs
-
--- src/lib.rt:78:5
-loop-holds : tie.Need-loop-holds Inv-loop μ-loop
+loop-holds : tie.Need-loop-holds Inv-framed μ-left
 loop-holds c = (omega arith, c .blocks-for .ensures, λ b l. absurd (omega arith))
 
--- src/lib.rt:79:41
-mul-lesser : tie.Need-mul-lesser Inv-loop μ-loop
-mul-lesser c = search needs
-
--- src/lib.rt:79:32
-sub-lesser : tie.Need-sub-lesser Inv-loop μ-loop
+sub-lesser : tie.Need-sub-lesser Inv-framed μ-left
 sub-lesser c = let is = c .before .loop .inv .1 in omega arith
 
--- src/lib.rt:79:13
-lesser-requires : tie.Need-lesser-requires Inv-loop μ-loop
-lesser-requires c κs = search needs
-
--- src/lib.rt:80:42
-cast-is-framed : tie.Need-cast-is-framed Inv-loop μ-loop
-cast-is-framed c = search needs
-
--- src/lib.rt:80:38
-add-is-framed : tie.Need-add-is-framed Inv-loop μ-loop
-add-is-framed c = search needs
-
--- src/lib.rt:80:54
-cast-is-framed-2 : tie.Need-cast-is-framed-2 Inv-loop μ-loop
-cast-is-framed-2 c = search needs
-
--- src/lib.rt:80:13
-is-framed-requires : tie.Need-is-framed-requires Inv-loop μ-loop
+is-framed-requires : tie.Need-is-framed-requires Inv-framed μ-left
 is-framed-requires c κs = let is = c .before .before .loop .inv .1 in let used = c .lesser .ensures in (omega arith, omega arith)
 
--- src/lib.rt:81:13
-returns : tie.Need-returns Inv-loop μ-loop
+returns : tie.Need-returns Inv-framed μ-left
 returns c = let turn = c .before .before .before .before in
     let given = turn .before .before .before .args in
     let more = c .before .before .before .loop-test .taken in
@@ -66,16 +34,7 @@ returns c = let turn = c .before .before .before .before in
     refuses (λ frames. said-no (c .before .is-framed .ensures) (c .if1 .taken)
     (subst (λ (n : ℕ). Framed (words-of (given .file .now)) (1 + turn .loop .b) n) (sym (c .before .before .lesser .ensures)) (frames (turn .loop .b) (omega arith))))
 
--- src/lib.rt:78:9
-add-b : tie.Need-add-b Inv-loop μ-loop
-add-b c = search needs
-
--- src/lib.rt:78:5
-loop-less : tie.Need-loop-less Inv-loop μ-loop
-loop-less c = search needs
-
--- src/lib.rt:78:5
-loop-again : tie.Need-loop-again Inv-loop μ-loop
+loop-again : tie.Need-loop-again Inv-framed μ-left
 loop-again c = let turn = c .before .before .before .before in
     let given = turn .before .before .before .args in
     let more = c .before .before .before .loop-test .taken in
@@ -86,8 +45,7 @@ loop-again c = let turn = c .before .before .before .before in
           (subst (λ (n : ℕ). Framed words (1 + turn .loop .b) n) (c .before .before .lesser .ensures) (said-yes (c .before .is-framed .ensures) (c .if1 .left))) i (omega arith) l,
     )
 
--- src/lib.rt:73:1
-returns-2 : tie.Need-returns-2 Inv-loop μ-loop
+returns-2 : tie.Need-returns-2 Inv-framed μ-left
 returns-2 c = let turn = c .before in
     let last = c .loop-test .left in
     let is = turn .loop .inv .1 in
@@ -97,19 +55,19 @@ pub frames-held-spec : {M : Type 1} → statement M
 frames-held-spec =
     tie.close
     (tie.spec
-    Inv-loop
-    μ-loop
-    blocks-for-requires
+    Inv-framed
+    μ-left
+    (λ c κs. search needs)
     loop-holds
-    mul-lesser
+    (λ c. search needs)
     sub-lesser
-    lesser-requires
-    cast-is-framed
-    add-is-framed
-    cast-is-framed-2
+    (λ c κs. search needs)
+    (λ c. search needs)
+    (λ c. search needs)
+    (λ c. search needs)
     is-framed-requires
     returns
-    add-b
-    loop-less
+    (λ c. search needs)
+    (λ c. search needs)
     loop-again
     returns-2)

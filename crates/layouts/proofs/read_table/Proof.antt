@@ -1,7 +1,8 @@
-use borrow.Author.Needs.{needs}
-use native.Mathlib.Omega.{arith}
+-- `layouts::read_table` meets its contract. The invariant: the places of the blocks before b are copied; the measure is how many blocks are left.
 use mathlib.Core.Path.{_≡_, refl, _∙_}
-use Prim.Native.Nat.{ℕ, _+_, _-_, _*_, _/_, _≤_, _<_}
+use Prim.Native.Nat.{ℕ, _-_, _*_, _≤_, _<_}
+use native.Mathlib.Omega.{arith}
+use borrow.Author.Needs.{needs}
 use lib.ListN.{length, getD}
 use Rattle.sectors.specs.Sectors.{words-of}
 use Rattle.sectors.proofs.Words.{words-length}
@@ -10,65 +11,21 @@ use Rattle.layouts.specs.Steps.{table-word}
 use Rattle.layouts.proofs.Writing.{copied-more, copied-all}
 use Rattle.layouts.proofs.read_table.Statement.{statement}
 use Rattle.layouts.proofs.read_table.Tie as tie
-use Rattle.layouts.proofs.read_table.Reads as reads
-use Rattle.layouts.proofs.read_table.Lts as lts
-use Rattle.layouts.proofs.blocks_for.Reads as blocks-for-reads
-use Rattle.layouts.proofs.lesser.Reads as lesser-reads
-use Rattle.sectors.proofs.copy_words.Reads as copy-words-reads
 
-abbrev Inv-loop : tie.InvT-loop
-Inv-loop file table₀ places blocks b₀ table b = (b ≤ blocks) × (blocks ≡ table-blocks places) × (length table ≡ length table₀)
+abbrev Inv-copied : tie.InvT-loop
+Inv-copied file table₀ places blocks b₀ table b = (b ≤ blocks) × (blocks ≡ table-blocks places) × (length table ≡ length table₀)
     × ((p : ℕ) → p < 126 * b → p < places → getD table p 0 ≡ table-word (words-of file) p)
 
-abbrev μ-loop : tie.MeasureT-loop
-μ-loop file table₀ places blocks b₀ table b = blocks - b
+abbrev μ-left : tie.MeasureT-loop
+μ-left file table₀ places blocks b₀ table b = blocks - b
 
--- src/lib.rt:135:9
-blocks-for-requires : tie.Need-blocks-for-requires Inv-loop μ-loop
-blocks-for-requires c κs = search needs
-
--- src/lib.rt:136:5
-loop-holds : tie.Need-loop-holds Inv-loop μ-loop
+loop-holds : tie.Need-loop-holds Inv-copied μ-left
 loop-holds c = (omega arith, c .blocks-for .ensures, refl, λ p l. absurd (omega arith))
 
--- src/lib.rt:137:41
-mul-lesser : tie.Need-mul-lesser Inv-loop μ-loop
-mul-lesser c = search needs
-
--- src/lib.rt:137:32
-sub-lesser : tie.Need-sub-lesser Inv-loop μ-loop
+sub-lesser : tie.Need-sub-lesser Inv-copied μ-left
 sub-lesser c = let is = c .before .loop .inv .1 in omega arith
 
--- src/lib.rt:137:13
-lesser-requires : tie.Need-lesser-requires Inv-loop μ-loop
-lesser-requires c κs = search needs
-
--- src/lib.rt:138:24
-cast-to : tie.Need-cast-to Inv-loop μ-loop
-cast-to c = search needs
-
--- src/lib.rt:138:18
-mul-to : tie.Need-mul-to Inv-loop μ-loop
-mul-to c = search needs
-
--- src/lib.rt:139:46
-cast-copy-words : tie.Need-cast-copy-words Inv-loop μ-loop
-cast-copy-words c = search needs
-
--- src/lib.rt:139:42
-add-copy-words : tie.Need-add-copy-words Inv-loop μ-loop
-add-copy-words c = search needs
-
--- src/lib.rt:139:35
-mul-copy-words : tie.Need-mul-copy-words Inv-loop μ-loop
-mul-copy-words c = search needs
-
--- src/lib.rt:139:70
-cast-copy-words-2 : tie.Need-cast-copy-words-2 Inv-loop μ-loop
-cast-copy-words-2 c = search needs
-
--- src/lib.rt:139:9
-copy-words-requires : tie.Need-copy-words-requires Inv-loop μ-loop
+copy-words-requires : tie.Need-copy-words-requires Inv-copied μ-left
 copy-words-requires c κs = let start = c .before .before .before .before .before .before .before in
     let turn = c .before .before .before in
     let is = turn .loop .inv .1 in
@@ -79,16 +36,7 @@ copy-words-requires c κs = let start = c .before .before .before .before .befor
     let size = start .pre .1 in
     (omega arith, omega arith)
 
--- src/lib.rt:136:9
-add-b : tie.Need-add-b Inv-loop μ-loop
-add-b c = search needs
-
--- src/lib.rt:136:5
-loop-less : tie.Need-loop-less Inv-loop μ-loop
-loop-less c = search needs
-
--- src/lib.rt:136:5
-loop-again : tie.Need-loop-again Inv-loop μ-loop
+loop-again : tie.Need-loop-again Inv-copied μ-left
 loop-again c = let start = c .before .before .before .before .before .before .before .before .before .before in
     let given = start .args in
     let turn = c .before .before .before .before .before .before in
@@ -105,12 +53,10 @@ loop-again c = let start = c .before .before .before .before .before .before .be
           (omega arith) (omega arith) (turn .loop .inv .3) (c .before .before .copy-words .ensures),
     )
 
--- src/lib.rt:131:1
-same-length : tie.Need-same-length Inv-loop μ-loop
+same-length : tie.Need-same-length Inv-copied μ-left
 same-length c = c .before .loop .inv .2
 
--- src/lib.rt:131:1
-returns : tie.Need-returns Inv-loop μ-loop
+returns : tie.Need-returns Inv-copied μ-left
 returns c = let turn = c .before in
     let last = c .loop-test .left in
     let is = turn .loop .inv .1 in
@@ -122,22 +68,22 @@ pub read-table-spec : {M : Type 1} → statement M
 read-table-spec =
     tie.close
     (tie.spec
-    Inv-loop
-    μ-loop
-    blocks-for-requires
+    Inv-copied
+    μ-left
+    (λ c κs. search needs)
     loop-holds
-    mul-lesser
+    (λ c. search needs)
     sub-lesser
-    lesser-requires
-    cast-to
-    mul-to
-    cast-copy-words
-    add-copy-words
-    mul-copy-words
-    cast-copy-words-2
+    (λ c κs. search needs)
+    (λ c. search needs)
+    (λ c. search needs)
+    (λ c. search needs)
+    (λ c. search needs)
+    (λ c. search needs)
+    (λ c. search needs)
     copy-words-requires
-    add-b
-    loop-less
+    (λ c. search needs)
+    (λ c. search needs)
     loop-again
     same-length
     returns)

@@ -1,7 +1,9 @@
-use borrow.Author.Needs.{needs}
+-- `layouts::table_held` meets its contract. The invariant: the table is right up to `at`, which begins a block where anything is left; the measure is what is
+-- left of it.
 use mathlib.Core.Path.{_≡_, refl, sym, subst, _∙_}
-use Prim.Native.Nat.{ℕ, _+_, _*_, _-_, _%_, _≤_, _<_}
+use Prim.Native.Nat.{ℕ, _*_, _-_, _%_, _≤_, _<_}
 use native.Mathlib.Omega.{arith}
+use borrow.Author.Needs.{needs}
 use lib.ListN.{length}
 use Rattle.terms.proofs.Telling.{refuses, grants, said-no, said-yes}
 use Rattle.sectors.specs.Sectors.{words-of}
@@ -9,39 +11,23 @@ use Rattle.layouts.specs.Steps.{Right-told}
 use Rattle.layouts.proofs.Judging.{right-more, right-part}
 use Rattle.layouts.proofs.table_held.Statement.{statement}
 use Rattle.layouts.proofs.table_held.Tie as tie
-use Rattle.layouts.proofs.table_held.Reads as reads
-use Rattle.layouts.proofs.table_held.Lts as lts
-use Rattle.layouts.proofs.lesser.Reads as lesser-reads
-use Rattle.layouts.proofs.stretch_held.Reads as stretch-held-reads
 
-abbrev Inv-loop : tie.InvT-loop
-Inv-loop file area by-square buffer₀ places at₀ buffer at = (at ≤ places) × (at < places → at % 126 ≡ 0) × (length buffer ≡ 1008) × Right-told by-square (words-of file) (area .w) (area .h) at
+abbrev Inv-right-so-far : tie.InvT-loop
+Inv-right-so-far file area by-square buffer₀ places at₀ buffer at = (at ≤ places) × (at < places → at % 126 ≡ 0) × (length buffer ≡ 1008) × Right-told by-square (words-of file) (area .w) (area .h) at
 
-abbrev μ-loop : tie.MeasureT-loop
-μ-loop file area by-square buffer₀ places at₀ buffer at = places - at
+abbrev μ-left : tie.MeasureT-loop
+μ-left file area by-square buffer₀ places at₀ buffer at = places - at
 
--- src/lib.rt:94:18
-mul-places : tie.Need-mul-places Inv-loop μ-loop
+mul-places : tie.Need-mul-places Inv-right-so-far μ-left
 mul-places c = let few = c .before .before .pre .0 .squares-most in omega arith
 
--- src/lib.rt:96:5
-loop-holds : tie.Need-loop-holds Inv-loop μ-loop
+loop-holds : tie.Need-loop-holds Inv-right-so-far μ-left
 loop-holds c = (omega arith, (λ l. refl), refl, λ i l. absurd (omega arith))
 
--- src/lib.rt:97:35
-sub-lesser : tie.Need-sub-lesser Inv-loop μ-loop
-sub-lesser c = search needs
-
--- src/lib.rt:97:13
-lesser-requires : tie.Need-lesser-requires Inv-loop μ-loop
-lesser-requires c κs = search needs
-
--- src/lib.rt:98:45
-slice-aggregate-stretch-held : tie.Need-slice-aggregate-stretch-held Inv-loop μ-loop
+slice-aggregate-stretch-held : tie.Need-slice-aggregate-stretch-held Inv-right-so-far μ-left
 slice-aggregate-stretch-held c = sym (c .before .before .before .loop .inv .2)
 
--- src/lib.rt:98:13
-stretch-held-requires : tie.Need-stretch-held-requires Inv-loop μ-loop
+stretch-held-requires : tie.Need-stretch-held-requires Inv-right-so-far μ-left
 stretch-held-requires c κs = let start = c .before .before .before .before .before .before in
     let turn = c .before .before .before in
     let m = c .before .lesser .ensures in
@@ -49,8 +35,7 @@ stretch-held-requires c κs = let start = c .before .before .before .before .bef
     let size = turn .loop .inv .2 in
     (start .pre .0, start .pre .1, turn .loop .inv .1 more, omega arith, omega arith)
 
--- src/lib.rt:99:13
-returns : tie.Need-returns Inv-loop μ-loop
+returns : tie.Need-returns Inv-right-so-far μ-left
 returns c = let turn = c .before .before .before .before .before .before in
     let given = turn .before .before .before .args in
     let m = c .before .before .before .before .lesser .ensures in
@@ -58,16 +43,13 @@ returns c = let turn = c .before .before .before .before .before .before in
     refuses (λ right. said-no (c .before .before .stretch-held .ensures) (c .if1 .taken)
     (right-part (given .by-square) (words-of (given .file .now)) (given .area .w) (given .area .h) (turn .loop .at) (c .before .before .before .before .lesser .result) (omega arith) right))
 
--- src/lib.rt:101:14
-add-at : tie.Need-add-at Inv-loop μ-loop
+add-at : tie.Need-add-at Inv-right-so-far μ-left
 add-at c = let m = c .before .before .before .before .lesser .ensures in let few = c .before .before .before .before .before .before .before .before .before .pre .0 .squares-most in omega arith
 
--- src/lib.rt:96:5
-loop-less : tie.Need-loop-less Inv-loop μ-loop
+loop-less : tie.Need-loop-less Inv-right-so-far μ-left
 loop-less c = let m = c .before .before .before .before .lesser .ensures in let more = c .before .before .before .before .before .loop-test .taken in omega arith
 
--- src/lib.rt:96:5
-loop-again : tie.Need-loop-again Inv-loop μ-loop
+loop-again : tie.Need-loop-again Inv-right-so-far μ-left
 loop-again c = let turn = c .before .before .before .before .before .before in
     let given = turn .before .before .before .args in
     let m = c .before .before .before .before .lesser .ensures in
@@ -80,8 +62,7 @@ loop-again c = let turn = c .before .before .before .before .before .before in
           (said-yes (c .before .before .stretch-held .ensures) (c .if1 .left)),
     )
 
--- src/lib.rt:89:1
-returns-2 : tie.Need-returns-2 Inv-loop μ-loop
+returns-2 : tie.Need-returns-2 Inv-right-so-far μ-left
 returns-2 c = let turn = c .before in
     let given = turn .before .before .before .args in
     let all : turn .loop .at ≡ given .area .w * given .area .h = let most = turn .loop .inv .0 in let last = c .loop-test .left in omega arith in
@@ -91,12 +72,12 @@ pub table-held-spec : {M : Type 1} → statement M
 table-held-spec =
     tie.close
     (tie.spec
-    Inv-loop
-    μ-loop
+    Inv-right-so-far
+    μ-left
     mul-places
     loop-holds
-    sub-lesser
-    lesser-requires
+    (λ c. search needs)
+    (λ c κs. search needs)
     slice-aggregate-stretch-held
     stretch-held-requires
     returns

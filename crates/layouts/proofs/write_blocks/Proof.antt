@@ -1,7 +1,8 @@
-use borrow.Author.Needs.{needs}
-use native.Mathlib.Omega.{arith}
+-- `layouts::write_blocks` meets its contract. The invariant: the first b blocks of the table are written behind block 0; the measure is how many are left.
 use mathlib.Core.Path.{_≡_, refl, _∙_, ap}
-use Prim.Native.Nat.{ℕ, _+_, _-_, _*_, _/_, _≤_, _<_}
+use Prim.Native.Nat.{ℕ, _-_, _≤_}
+use native.Mathlib.Omega.{arith}
+use borrow.Author.Needs.{needs}
 use lib.ListN.{length}
 use lib.Seq.{sets}
 use Rattle.sectors.specs.Sectors.{words-of, packed}
@@ -9,61 +10,21 @@ use Rattle.layouts.specs.Layouts.{table-blocks}
 use Rattle.layouts.proofs.Writing.{block-more}
 use Rattle.layouts.proofs.write_blocks.Statement.{statement}
 use Rattle.layouts.proofs.write_blocks.Tie as tie
-use Rattle.layouts.proofs.write_blocks.Reads as reads
-use Rattle.layouts.proofs.write_blocks.Lts as lts
-use Rattle.layouts.proofs.blocks_for.Reads as blocks-for-reads
-use Rattle.layouts.proofs.lesser.Reads as lesser-reads
-use Rattle.sectors.proofs.write_block.Reads as write-block-reads
 
-abbrev Inv-loop : tie.InvT-loop
-Inv-loop file₀ table places blocks b₀ file b = (b ≤ blocks) × (blocks ≡ table-blocks places) × (length file ≡ length file₀) × (words-of file ≡ sets (words-of file₀) 128 (packed b table))
+abbrev Inv-written : tie.InvT-loop
+Inv-written file₀ table places blocks b₀ file b = (b ≤ blocks) × (blocks ≡ table-blocks places) × (length file ≡ length file₀) × (words-of file ≡ sets (words-of file₀) 128 (packed b table))
 
-abbrev μ-loop : tie.MeasureT-loop
-μ-loop file₀ table places blocks b₀ file b = blocks - b
+abbrev μ-left : tie.MeasureT-loop
+μ-left file₀ table places blocks b₀ file b = blocks - b
 
--- src/lib.rt:113:9
-blocks-for-requires : tie.Need-blocks-for-requires Inv-loop μ-loop
-blocks-for-requires c κs = search needs
-
--- src/lib.rt:114:5
-loop-holds : tie.Need-loop-holds Inv-loop μ-loop
+loop-holds : tie.Need-loop-holds Inv-written μ-left
 unfolding packed
 loop-holds c = (omega arith, c .blocks-for .ensures, refl, refl)
 
--- src/lib.rt:115:41
-mul-lesser : tie.Need-mul-lesser Inv-loop μ-loop
-mul-lesser c = search needs
-
--- src/lib.rt:115:32
-sub-lesser : tie.Need-sub-lesser Inv-loop μ-loop
+sub-lesser : tie.Need-sub-lesser Inv-written μ-left
 sub-lesser c = let is = c .before .loop .inv .1 in omega arith
 
--- src/lib.rt:115:13
-lesser-requires : tie.Need-lesser-requires Inv-loop μ-loop
-lesser-requires c κs = search needs
-
--- src/lib.rt:116:26
-cast-from : tie.Need-cast-from Inv-loop μ-loop
-cast-from c = search needs
-
--- src/lib.rt:116:20
-mul-from : tie.Need-mul-from Inv-loop μ-loop
-mul-from c = search needs
-
--- src/lib.rt:117:40
-cast-write-block : tie.Need-cast-write-block Inv-loop μ-loop
-cast-write-block c = search needs
-
--- src/lib.rt:117:36
-add-write-block : tie.Need-add-write-block Inv-loop μ-loop
-add-write-block c = search needs
-
--- src/lib.rt:117:65
-cast-write-block-2 : tie.Need-cast-write-block-2 Inv-loop μ-loop
-cast-write-block-2 c = search needs
-
--- src/lib.rt:117:9
-write-block-requires : tie.Need-write-block-requires Inv-loop μ-loop
+write-block-requires : tie.Need-write-block-requires Inv-written μ-left
 write-block-requires c κs = let start = c .before .before .before .before .before .before .before in
     let turn = c .before .before .before in
     let is = turn .loop .inv .1 in
@@ -74,16 +35,7 @@ write-block-requires c κs = let start = c .before .before .before .before .befo
     let places = start .pre .1 in
     (omega arith, omega arith, omega arith)
 
--- src/lib.rt:114:9
-add-b : tie.Need-add-b Inv-loop μ-loop
-add-b c = search needs
-
--- src/lib.rt:114:5
-loop-less : tie.Need-loop-less Inv-loop μ-loop
-loop-less c = search needs
-
--- src/lib.rt:114:5
-loop-again : tie.Need-loop-again Inv-loop μ-loop
+loop-again : tie.Need-loop-again Inv-written μ-left
 loop-again c = let start = c .before .before .before .before .before .before .before .before .before .before in
     let given = start .args in
     let turn = c .before .before .before .before .before .before in
@@ -95,38 +47,36 @@ loop-again c = let start = c .before .before .before .before .before .before .be
           (turn .loop .inv .3) (c .before .before .write-block .ensures),
     )
 
--- src/lib.rt:109:1
-same-length : tie.Need-same-length Inv-loop μ-loop
+same-length : tie.Need-same-length Inv-written μ-left
 same-length c = c .before .loop .inv .2
 
--- src/lib.rt:109:1
-returns : tie.Need-returns Inv-loop μ-loop
+returns : tie.Need-returns Inv-written μ-left
 returns c = let turn = c .before in
     let start = turn .before .before .before .before in
     let given = start .args in
     let all : turn .loop .b ≡ table-blocks (given .places) =
-        let most = turn .loop .inv .0 in let is = turn .loop .inv .1 in let last = c .loop-test .left in omega arith in
+    let most = turn .loop .inv .0 in let is = turn .loop .inv .1 in let last = c .loop-test .left in omega arith in
     turn .loop .inv .3 ∙ ap (λ (n : ℕ). sets (words-of (given .file .now)) 128 (packed n (given .table .now))) all
 
 pub write-blocks-spec : {M : Type 1} → statement M
 write-blocks-spec =
     tie.close
     (tie.spec
-    Inv-loop
-    μ-loop
-    blocks-for-requires
+    Inv-written
+    μ-left
+    (λ c κs. search needs)
     loop-holds
-    mul-lesser
+    (λ c. search needs)
     sub-lesser
-    lesser-requires
-    cast-from
-    mul-from
-    cast-write-block
-    add-write-block
-    cast-write-block-2
+    (λ c κs. search needs)
+    (λ c. search needs)
+    (λ c. search needs)
+    (λ c. search needs)
+    (λ c. search needs)
+    (λ c. search needs)
     write-block-requires
-    add-b
-    loop-less
+    (λ c. search needs)
+    (λ c. search needs)
     loop-again
     same-length
     returns)

@@ -1,34 +1,13 @@
-use mathlib.Core.Path.{_≡_, _∙_, ap, sym}
+-- `layouts::write_table` meets its contract: block 0 and then the table's blocks fill the whole file, so that its words are the card's, and its bytes too.
+use mathlib.Core.Path.{_∙_, ap, sym}
 use Prim.Native.Nat.{ℕ, _*_, _/_}
-use lib.ListN.{length}
+use borrow.Author.Needs.{needs}
 use Rattle.sectors.specs.Sectors.{words-of}
 use Rattle.sectors.proofs.Words.{words-length}
 use Rattle.layouts.proofs.Writing.{card-written}
-use borrow.Author.Needs.{needs}
 use Rattle.layouts.proofs.write_table.Statement.{statement}
 use Rattle.layouts.proofs.write_table.Tie as tie
-use Rattle.layouts.proofs.write_table.Reads as reads
-use Rattle.layouts.proofs.write_table.Lts as lts
-use Rattle.layouts.proofs.write_blocks.Reads as write-blocks-reads
-use Rattle.layouts.proofs.write_head.Reads as write-head-reads
 
--- src/lib.rt:126:5
-write-head-requires : tie.Need-write-head-requires
-write-head-requires c κs = search needs
-
--- src/lib.rt:127:31
-mul-write-blocks : tie.Need-mul-write-blocks
-mul-write-blocks c = search needs
-
--- src/lib.rt:127:5
-write-blocks-requires : tie.Need-write-blocks-requires
-write-blocks-requires c κs = search needs
-
--- src/lib.rt:122:1
-same-length : tie.Need-same-length
-same-length c = search needs
-
--- src/lib.rt:122:1
 returns : tie.Need-returns
 returns c = let start = c .before .before .before .before .before .before .before .before .before .before .before in
     let given = start .args in
@@ -40,4 +19,4 @@ returns c = let start = c .before .before .before .before .before .before .befor
 pub write-table-spec : {M : Type 1} → statement M
 write-table-spec =
     tie.close
-    (tie.spec write-head-requires mul-write-blocks write-blocks-requires same-length returns)
+    (tie.spec (λ c κs. search needs) (λ c. search needs) (λ c κs. search needs) (λ c. search needs) returns)

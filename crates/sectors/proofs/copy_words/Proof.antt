@@ -1,60 +1,31 @@
-use borrow.Author.Needs.{needs}
-use native.Mathlib.Omega.{arith}
+-- `sectors::copy_words` meets its contract. The invariant: the first i words are entered; the measure is what is left of them.
 use mathlib.Core.Path.{_≡_, refl, _∙_, sym}
-use Prim.Native.Nat.{ℕ, _-_, _≤_, _/_}
+use Prim.Native.Nat.{_-_, _≤_}
+use native.Mathlib.Omega.{arith}
+use borrow.Author.Needs.{needs}
 use lib.ListN.{length, take, length-set}
-use lib.Seq.{sets, length-sets}
+use lib.Seq.{sets}
 use Rattle.sectors.specs.Sectors.{words-of}
 use Rattle.sectors.specs.Steps.{slice}
 use Rattle.sectors.proofs.Words.{words-length}
 use Rattle.sectors.proofs.Entering.{slice-length, slice-at, one-more, all-entered}
 use Rattle.sectors.proofs.copy_words.Statement.{statement}
 use Rattle.sectors.proofs.copy_words.Tie as tie
-use Rattle.sectors.proofs.copy_words.Reads as reads
-use Rattle.sectors.proofs.copy_words.Lts as lts
-use Rattle.sectors.proofs.word_at.Reads as word-at-reads
 
-abbrev Inv-loop : tie.InvT-loop
-Inv-loop bytes at words₀ to n i₀ words i = (i ≤ n) × (length words ≡ length words₀) × (words ≡ sets words₀ to (take i (slice (words-of bytes) at n)))
+abbrev Inv-entered : tie.InvT-loop
+Inv-entered bytes at words₀ to n i₀ words i = (i ≤ n) × (length words ≡ length words₀) × (words ≡ sets words₀ to (take i (slice (words-of bytes) at n)))
 
-abbrev μ-loop : tie.MeasureT-loop
-μ-loop bytes at words₀ to n i₀ words i = n - i
+abbrev μ-left : tie.MeasureT-loop
+μ-left bytes at words₀ to n i₀ words i = n - i
 
--- src/lib.rt:103:5
-loop-holds : tie.Need-loop-holds Inv-loop μ-loop
+loop-holds : tie.Need-loop-holds Inv-entered μ-left
 loop-holds c = (omega arith, refl, refl)
 
--- src/lib.rt:104:40
-add-word-at : tie.Need-add-word-at Inv-loop μ-loop
-add-word-at c = search needs
-
--- src/lib.rt:104:25
-word-at-requires : tie.Need-word-at-requires Inv-loop μ-loop
-word-at-requires c κs = search needs
-
--- src/lib.rt:104:15
-add-words : tie.Need-add-words Inv-loop μ-loop
-add-words c = search needs
-
--- src/lib.rt:104:9
-mul-words : tie.Need-mul-words Inv-loop μ-loop
-mul-words c = search needs
-
--- src/lib.rt:104:9
-slice-write-words : tie.Need-slice-write-words Inv-loop μ-loop
+slice-write-words : tie.Need-slice-write-words Inv-entered μ-left
 slice-write-words c = let same = c .before .before .loop .inv .1 in
     omega arith
 
--- src/lib.rt:103:9
-add-i : tie.Need-add-i Inv-loop μ-loop
-add-i c = search needs
-
--- src/lib.rt:103:5
-loop-less : tie.Need-loop-less Inv-loop μ-loop
-loop-less c = search needs
-
--- src/lib.rt:103:5
-loop-again : tie.Need-loop-again Inv-loop μ-loop
+loop-again : tie.Need-loop-again Inv-entered μ-left
 loop-again c = let turn = c .before .before in
     let given = turn .before .before .before .args in
     let room = turn .before .before .before .pre in
@@ -67,12 +38,10 @@ loop-again c = let turn = c .before .before in
           (c .word-at .ensures ∙ sym (slice-at words (given .at) (given .n) (turn .loop .i) more)) (turn .loop .inv .2),
     )
 
--- src/lib.rt:99:1
-same-length : tie.Need-same-length Inv-loop μ-loop
+same-length : tie.Need-same-length Inv-entered μ-left
 same-length c = c .before .loop .inv .1
 
--- src/lib.rt:99:1
-returns : tie.Need-returns Inv-loop μ-loop
+returns : tie.Need-returns Inv-entered μ-left
 returns c = let turn = c .before in
     let given = turn .before .before .before .args in
     let room = turn .before .before .before .pre in
@@ -85,16 +54,16 @@ pub copy-words-spec : {M : Type 1} → statement M
 copy-words-spec =
     tie.close
     (tie.spec
-    Inv-loop
-    μ-loop
+    Inv-entered
+    μ-left
     loop-holds
-    add-word-at
-    word-at-requires
-    add-words
-    mul-words
+    (λ c. search needs)
+    (λ c κs. search needs)
+    (λ c. search needs)
+    (λ c. search needs)
     slice-write-words
-    add-i
-    loop-less
+    (λ c. search needs)
+    (λ c. search needs)
     loop-again
     same-length
     returns)

@@ -1,9 +1,9 @@
+-- `sectors::has_words` meets its contract. The invariant: of the first i words all are the same if i are counted, and no more are; the measure is what is left.
 use mathlib.Core.Logic.{inl, inr, ⊎-elim}
-use mathlib.Core.Path.{_∙_, sym}
-use borrow.Author.Needs.{needs}
-use mathlib.Core.Path.{_≡_, refl, subst}
-use Prim.Native.Nat.{ℕ, _+_, _*_, _-_, _≤_, _<_}
+use mathlib.Core.Path.{_∙_, sym, _≡_, refl, subst}
+use Prim.Native.Nat.{ℕ, _+_, _-_, _≤_}
 use native.Mathlib.Omega.{arith}
+use borrow.Author.Needs.{needs}
 use lib.Dec.{eqb}
 use lib.ListN.{getD}
 use Rattle.terms.specs.Telling.{Tells}
@@ -12,54 +12,17 @@ use Rattle.sectors.specs.Sectors.{words-of}
 use Rattle.sectors.specs.Steps.{Has}
 use Rattle.sectors.proofs.has_words.Statement.{statement}
 use Rattle.sectors.proofs.has_words.Tie as tie
-use Rattle.sectors.proofs.has_words.Reads as reads
-use Rattle.sectors.proofs.has_words.Lts as lts
-use Rattle.sectors.proofs.word_at.Reads as word-at-reads
 
-abbrev Inv-loop : tie.InvT-loop
-Inv-loop bytes at words from n same₀ i₀ i-end same i = (i ≤ i-end) × (i-end ≡ n) × (same ≤ i) × Tells (eqb same i) (Has (words-of bytes) at words from i)
+abbrev Inv-counted : tie.InvT-loop
+Inv-counted bytes at words from n same₀ i₀ i-end same i = (i ≤ i-end) × (i-end ≡ n) × (same ≤ i) × Tells (eqb same i) (Has (words-of bytes) at words from i)
 
-abbrev μ-loop : tie.MeasureT-loop
-μ-loop bytes at words from n same₀ i₀ i-end same i = i-end - i
+abbrev μ-left : tie.MeasureT-loop
+μ-left bytes at words from n same₀ i₀ i-end same i = i-end - i
 
--- src/lib.rt:77:5
-loop-holds : tie.Need-loop-holds Inv-loop μ-loop
+loop-holds : tie.Need-loop-holds Inv-counted μ-left
 loop-holds c = (omega arith, refl, omega arith, (λ e j l. absurd (omega arith), λ all. refl))
 
--- src/lib.rt:78:27
-add-word-at : tie.Need-add-word-at Inv-loop μ-loop
-add-word-at c = search needs
-
--- src/lib.rt:78:12
-word-at-requires : tie.Need-word-at-requires Inv-loop μ-loop
-word-at-requires c κs = search needs
-
--- src/lib.rt:78:44
-add-if1 : tie.Need-add-if1 Inv-loop μ-loop
-add-if1 c = search needs
-
--- src/lib.rt:78:38
-mul-if1 : tie.Need-mul-if1 Inv-loop μ-loop
-mul-if1 c = search needs
-
--- src/lib.rt:78:38
-shared-slice-read-if1 : tie.Need-shared-slice-read-if1 Inv-loop μ-loop
-shared-slice-read-if1 c = search needs
-
--- src/lib.rt:79:20
-add-same : tie.Need-add-same Inv-loop μ-loop
-add-same c = search needs
-
--- src/lib.rt:77:9
-add-i : tie.Need-add-i Inv-loop μ-loop
-add-i c = search needs
-
--- src/lib.rt:77:5
-loop-less : tie.Need-loop-less Inv-loop μ-loop
-loop-less c = search needs
-
--- src/lib.rt:77:5
-loop-again : tie.Need-loop-again Inv-loop μ-loop
+loop-again : tie.Need-loop-again Inv-counted μ-left
 loop-again c = let turn = c .before .before .before .before in
     let given = turn .before .before .before .args in
     let more = c .before .before .before .loop-test .taken in
@@ -70,8 +33,7 @@ loop-again c = let turn = c .before .before .before .before in
     (⊎-elim (λ right. inl (sym here ∙ right .0 .taken, right .1)) (λ wrong. inr ((λ is. wrong .0 .left (here ∙ is)), wrong .1)) (c .if1 .came)) in
     (omega arith, refl, looked .0, looked .1)
 
--- src/lib.rt:72:1
-returns : tie.Need-returns Inv-loop μ-loop
+returns : tie.Need-returns Inv-counted μ-left
 returns c = let turn = c .before in
     let given = turn .before .before .before .args in
     let all : turn .loop .i ≡ given .n = let most = turn .loop .inv .0 in let last = c .loop-test .left in omega arith in
@@ -81,16 +43,16 @@ pub has-words-spec : {M : Type 1} → statement M
 has-words-spec =
     tie.close
     (tie.spec
-    Inv-loop
-    μ-loop
+    Inv-counted
+    μ-left
     loop-holds
-    add-word-at
-    word-at-requires
-    add-if1
-    mul-if1
-    shared-slice-read-if1
-    add-same
-    add-i
-    loop-less
+    (λ c. search needs)
+    (λ c κs. search needs)
+    (λ c. search needs)
+    (λ c. search needs)
+    (λ c. search needs)
+    (λ c. search needs)
+    (λ c. search needs)
+    (λ c. search needs)
     loop-again
     returns)

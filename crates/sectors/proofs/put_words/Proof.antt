@@ -1,59 +1,30 @@
-use borrow.Author.Needs.{needs}
+-- `sectors::put_words` meets its contract. The invariant: the first i words are entered; the measure is what is left of them.
+use mathlib.Core.Path.{_≡_, refl, _∙_, sym}
+use Prim.Native.Nat.{_-_, _+_, _≤_}
 use native.Mathlib.Omega.{arith}
-use mathlib.Core.Path.{_≡_, refl, _∙_, sym, ap}
-use Prim.Native.Nat.{ℕ, _-_, _+_, _≤_, _/_}
-use lib.ListN.{length, take, getD, set}
+use borrow.Author.Needs.{needs}
+use lib.ListN.{length, take, getD}
 use lib.Seq.{sets}
 use Rattle.sectors.specs.Sectors.{words-of}
 use Rattle.sectors.specs.Steps.{slice}
 use Rattle.sectors.proofs.Entering.{slice-length, slice-at, one-more, all-entered}
 use Rattle.sectors.proofs.put_words.Statement.{statement}
 use Rattle.sectors.proofs.put_words.Tie as tie
-use Rattle.sectors.proofs.put_words.Reads as reads
-use Rattle.sectors.proofs.put_words.Lts as lts
-use Rattle.sectors.proofs.put_word.Reads as put-word-reads
 
-abbrev Inv-loop : tie.InvT-loop
-Inv-loop bytes₀ at words from n i₀ bytes i = (i ≤ n) × (length bytes ≡ length bytes₀) × (words-of bytes ≡ sets (words-of bytes₀) at (take i (slice words from n)))
+abbrev Inv-entered : tie.InvT-loop
+Inv-entered bytes₀ at words from n i₀ bytes i = (i ≤ n) × (length bytes ≡ length bytes₀) × (words-of bytes ≡ sets (words-of bytes₀) at (take i (slice words from n)))
 
-abbrev μ-loop : tie.MeasureT-loop
-μ-loop bytes₀ at words from n i₀ bytes i = n - i
+abbrev μ-left : tie.MeasureT-loop
+μ-left bytes₀ at words from n i₀ bytes i = n - i
 
--- src/lib.rt:113:5
-loop-holds : tie.Need-loop-holds Inv-loop μ-loop
+loop-holds : tie.Need-loop-holds Inv-entered μ-left
 loop-holds c = (omega arith, refl, refl)
 
--- src/lib.rt:114:25
-add-put-word : tie.Need-add-put-word Inv-loop μ-loop
-add-put-word c = search needs
-
--- src/lib.rt:114:39
-add-put-word-2 : tie.Need-add-put-word-2 Inv-loop μ-loop
-add-put-word-2 c = search needs
-
--- src/lib.rt:114:33
-mul-put-word : tie.Need-mul-put-word Inv-loop μ-loop
-mul-put-word c = search needs
-
--- src/lib.rt:114:33
-shared-slice-read-put-word : tie.Need-shared-slice-read-put-word Inv-loop μ-loop
-shared-slice-read-put-word c = search needs
-
--- src/lib.rt:114:9
-put-word-requires : tie.Need-put-word-requires Inv-loop μ-loop
+put-word-requires : tie.Need-put-word-requires Inv-entered μ-left
 put-word-requires c κs = let same = c .before .before .before .loop .inv .1 in
     omega arith
 
--- src/lib.rt:113:9
-add-i : tie.Need-add-i Inv-loop μ-loop
-add-i c = search needs
-
--- src/lib.rt:113:5
-loop-less : tie.Need-loop-less Inv-loop μ-loop
-loop-less c = search needs
-
--- src/lib.rt:113:5
-loop-again : tie.Need-loop-again Inv-loop μ-loop
+loop-again : tie.Need-loop-again Inv-entered μ-left
 loop-again c = let turn = c .before .before .before .before .before .before in
     let start = turn .before .before .before in
     let given = start .args in
@@ -68,12 +39,10 @@ loop-again c = let turn = c .before .before .before .before .before .before in
           (sym (slice-at (given .words .now) (given .from) (given .n) (turn .loop .i) more)) (turn .loop .inv .2),
     )
 
--- src/lib.rt:109:1
-same-length : tie.Need-same-length Inv-loop μ-loop
+same-length : tie.Need-same-length Inv-entered μ-left
 same-length c = c .before .loop .inv .1
 
--- src/lib.rt:109:1
-returns : tie.Need-returns Inv-loop μ-loop
+returns : tie.Need-returns Inv-entered μ-left
 returns c = let turn = c .before in
     let start = turn .before .before .before in
     let given = start .args in
@@ -85,16 +54,16 @@ pub put-words-spec : {M : Type 1} → statement M
 put-words-spec =
     tie.close
     (tie.spec
-    Inv-loop
-    μ-loop
+    Inv-entered
+    μ-left
     loop-holds
-    add-put-word
-    add-put-word-2
-    mul-put-word
-    shared-slice-read-put-word
+    (λ c. search needs)
+    (λ c. search needs)
+    (λ c. search needs)
+    (λ c. search needs)
     put-word-requires
-    add-i
-    loop-less
+    (λ c. search needs)
+    (λ c. search needs)
     loop-again
     same-length
     returns)

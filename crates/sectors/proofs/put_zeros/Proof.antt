@@ -1,46 +1,29 @@
-use borrow.Author.Needs.{needs}
+-- `sectors::put_zeros` meets its contract. The invariant: i zeros are entered; the measure is what is left of them.
+use mathlib.Core.Path.{_≡_, refl, _∙_, sym}
+use Prim.Native.Nat.{ℕ, _-_, _≤_}
 use native.Mathlib.Omega.{arith}
-use mathlib.Core.Path.{_≡_, refl, _∙_, sym, ap}
-use Prim.Native.Nat.{ℕ, _-_, _+_, _≤_, _/_}
+use borrow.Author.Needs.{needs}
 use lib.ListN.{length, take, replicate, length-replicate}
 use lib.Seq.{sets}
 use Rattle.sectors.specs.Sectors.{words-of}
 use Rattle.sectors.proofs.Entering.{zero-at, one-more, all-entered}
 use Rattle.sectors.proofs.put_zeros.Statement.{statement}
 use Rattle.sectors.proofs.put_zeros.Tie as tie
-use Rattle.sectors.proofs.put_zeros.Reads as reads
-use Rattle.sectors.proofs.put_zeros.Lts as lts
-use Rattle.sectors.proofs.put_word.Reads as put-word-reads
 
-abbrev Inv-loop : tie.InvT-loop
-Inv-loop bytes₀ at n i₀ bytes i = (i ≤ n) × (length bytes ≡ length bytes₀) × (words-of bytes ≡ sets (words-of bytes₀) at (take i (replicate {A = ℕ} n 0)))
+abbrev Inv-entered : tie.InvT-loop
+Inv-entered bytes₀ at n i₀ bytes i = (i ≤ n) × (length bytes ≡ length bytes₀) × (words-of bytes ≡ sets (words-of bytes₀) at (take i (replicate {A = ℕ} n 0)))
 
-abbrev μ-loop : tie.MeasureT-loop
-μ-loop bytes₀ at n i₀ bytes i = n - i
+abbrev μ-left : tie.MeasureT-loop
+μ-left bytes₀ at n i₀ bytes i = n - i
 
--- src/lib.rt:123:5
-loop-holds : tie.Need-loop-holds Inv-loop μ-loop
+loop-holds : tie.Need-loop-holds Inv-entered μ-left
 loop-holds c = (omega arith, refl, refl)
 
--- src/lib.rt:124:25
-add-put-word : tie.Need-add-put-word Inv-loop μ-loop
-add-put-word c = search needs
-
--- src/lib.rt:124:9
-put-word-requires : tie.Need-put-word-requires Inv-loop μ-loop
+put-word-requires : tie.Need-put-word-requires Inv-entered μ-left
 put-word-requires c κs = let same = c .before .before .loop .inv .1 in
     omega arith
 
--- src/lib.rt:123:9
-add-i : tie.Need-add-i Inv-loop μ-loop
-add-i c = search needs
-
--- src/lib.rt:123:5
-loop-less : tie.Need-loop-less Inv-loop μ-loop
-loop-less c = search needs
-
--- src/lib.rt:123:5
-loop-again : tie.Need-loop-again Inv-loop μ-loop
+loop-again : tie.Need-loop-again Inv-entered μ-left
 loop-again c = let turn = c .before .before .before .before .before in
     let start = turn .before .before in
     let given = start .args in
@@ -53,12 +36,10 @@ loop-again c = let turn = c .before .before .before .before .before in
           (sym (zero-at (given .n) (turn .loop .i))) (turn .loop .inv .2),
     )
 
--- src/lib.rt:119:1
-same-length : tie.Need-same-length Inv-loop μ-loop
+same-length : tie.Need-same-length Inv-entered μ-left
 same-length c = c .before .loop .inv .1
 
--- src/lib.rt:119:1
-returns : tie.Need-returns Inv-loop μ-loop
+returns : tie.Need-returns Inv-entered μ-left
 returns c = let turn = c .before in
     let given = turn .before .before .args in
     let last = c .loop-test .left in
@@ -69,13 +50,13 @@ pub put-zeros-spec : {M : Type 1} → statement M
 put-zeros-spec =
     tie.close
     (tie.spec
-    Inv-loop
-    μ-loop
+    Inv-entered
+    μ-left
     loop-holds
-    add-put-word
+    (λ c. search needs)
     put-word-requires
-    add-i
-    loop-less
+    (λ c. search needs)
+    (λ c. search needs)
     loop-again
     same-length
     returns)

@@ -1,49 +1,10 @@
+-- `sectors::word_at` meets its contract: the word of the four bytes that are read is word i of them all.
 use mathlib.Core.Path.{_∙_, sym}
-use Rattle.sectors.proofs.Words.{word-is}
 use borrow.Author.Needs.{needs}
+use Rattle.sectors.proofs.Words.{word-is}
 use Rattle.sectors.proofs.word_at.Statement.{statement}
 use Rattle.sectors.proofs.word_at.Tie as tie
-use Rattle.sectors.proofs.word_at.Reads as reads
-use Rattle.sectors.proofs.word_at.Lts as lts
-use Rattle.sectors.proofs.word_of.Reads as word-of-reads
 
--- src/lib.rt:22:14
-mul-at : tie.Need-mul-at
-mul-at c = search needs
-
--- src/lib.rt:23:13
-shared-slice-read-word-of : tie.Need-shared-slice-read-word-of
-shared-slice-read-word-of c = search needs
-
--- src/lib.rt:23:30
-add-word-of : tie.Need-add-word-of
-add-word-of c = search needs
-
--- src/lib.rt:23:24
-shared-slice-read-word-of-2 : tie.Need-shared-slice-read-word-of-2
-shared-slice-read-word-of-2 c = search needs
-
--- src/lib.rt:23:45
-add-word-of-2 : tie.Need-add-word-of-2
-add-word-of-2 c = search needs
-
--- src/lib.rt:23:39
-shared-slice-read-word-of-3 : tie.Need-shared-slice-read-word-of-3
-shared-slice-read-word-of-3 c = search needs
-
--- src/lib.rt:23:60
-add-word-of-3 : tie.Need-add-word-of-3
-add-word-of-3 c = search needs
-
--- src/lib.rt:23:54
-shared-slice-read-word-of-4 : tie.Need-shared-slice-read-word-of-4
-shared-slice-read-word-of-4 c = search needs
-
--- src/lib.rt:23:5
-word-of-requires : tie.Need-word-of-requires
-word-of-requires c κs = search needs
-
--- src/lib.rt:18:1
 returns : tie.Need-returns
 returns c = let start = c .before .before .before .before .before .before in
     c .word-of .ensures ∙ sym (word-is (start .args .bytes .now) (start .args .i) (start .pre))
@@ -52,13 +13,13 @@ pub word-at-spec : {M : Type 1} → statement M
 word-at-spec =
     tie.close
     (tie.spec
-    mul-at
-    shared-slice-read-word-of
-    add-word-of
-    shared-slice-read-word-of-2
-    add-word-of-2
-    shared-slice-read-word-of-3
-    add-word-of-3
-    shared-slice-read-word-of-4
-    word-of-requires
+    (λ c. search needs)
+    (λ c. search needs)
+    (λ c. search needs)
+    (λ c. search needs)
+    (λ c. search needs)
+    (λ c. search needs)
+    (λ c. search needs)
+    (λ c. search needs)
+    (λ c κs. search needs)
     returns)
