@@ -96,9 +96,9 @@ module _ (f : Figures) (after lent slice : List ℕ) where
       rw (le-leb 1 (length slice) l) (due-told .0, (due-told .1, is))
 
 -- A call that has no values returns the refusal's number of the case that its answer is.
-pub returned-so : {B : Type 0} (figures : B → Figures) {f : Figures} {is case : B} → is ≡ case → figures is ≡ f
+pub returned-so : {B : Type 0} (figures : B → Figures) (f : Figures) {is case : B} → is ≡ case → figures is ≡ f
     → (r : ℕ) → r ≡ figures case .refusal → r ≡ f .refusal
-returned-so figures e due r p = p ∙ ap (λ (f : Figures). f .refusal) (ap figures (sym e) ∙ due)
+returned-so figures f e due r p = p ∙ ap (λ (f : Figures). f .refusal) (ap figures (sym e) ∙ due)
 
 -- A fill, by the list that is due.
 module _ (w h : ℕ) (due : ℕ → ℕ → List ℕ) (table slice : List ℕ) where
