@@ -16,6 +16,7 @@ use Rattle.terms.specs.Terms.{lengths-accepted, squares-accepted, FiguresOf, Fi
 use Rattle.terms.proofs.Refusals.{refusal-some}
 use Rattle.curve.specs.Lookups.{number-to-square-at, square-to-number-at, finish-square-at}
 use Rattle.tables.specs.Tables.{by-number, by-square, unless-refused, fill-at, filled-at, check-at}
+use Rattle.tables.proofs.Admitted.{answered-left, refused-left}
 use Rattle.layouts.specs.Layouts.{right-table, card, card-bytes}
 use Rattle.cards.specs.Cards.{measure, write, read, measure-at, write-at, file-after-at, read-at, table-after, table-after-at}
 use Rattle.windows.specs.Windows.{runs-for-window-at, slice-after-at}
@@ -122,14 +123,6 @@ module _ (w h : ℕ) (ox oy : ℤ) where
       tells-so 8 (handled-figures (area-of (after clerk line)) (reply clerk line)) result
 
 -- What cards come to, by what is returned: how many bytes one has, "The file is then as it was" where writing is refused, and so the table where reading is.
-as-due : (f : Figures) (due before : List ℕ) → f .refusal ≡ 0 → unless-refused f due before ≡ due
-unfolding unless-refused
-as-due f due before e = rw (eq-eqb (f .refusal) 0 e) refl
-
-as-before : (f : Figures) (due before : List ℕ) → (f .refusal ≡ 0 → ⊥) → unless-refused f due before ≡ before
-unfolding unless-refused
-as-before f due before n = rw (ne-eqb (f .refusal) 0 n) refl
-
 module _ (w h : ℕ) where
   measured : (measure w h .refusal ≡ 0 → measure w h .values ≡ card-bytes w h ∷ []) × ((measure w h .refusal ≡ 0 → ⊥) → measure w h .values ≡ 0 ∷ [])
   unfolding measure
@@ -155,7 +148,7 @@ module _ (w h : ℕ) where
     pub write-shown : (table file : List ℕ) →
         let call = write-card-call w h kind table file in
         (call .returned ≡ 0 → call .file ≡ card w h kind) × ((call .returned ≡ 0 → ⊥) → call .file ≡ file)
-    write-shown table file = (as-due (write w h kind table file) (card w h kind) file, as-before (write w h kind table file) (card w h kind) file)
+    write-shown table file = (answered-left (write w h kind table file) (card w h kind) file, refused-left (write w h kind table file) (card w h kind) file)
 
     pub read-shown : (file table block : List ℕ) → 1 ≤ length block →
         let call = read-card-call w h kind file table block in
@@ -163,8 +156,8 @@ module _ (w h : ℕ) where
     read-shown file table block l =
         let f = read w h kind file table in
         let is = writes-so f block table (table-after w h kind file table) .told l in (
-          λ e. is .1 .1 ∙ as-due f (right-table w h kind) table (sym (is .0) ∙ e),
-          λ n. is .1 .1 ∙ as-before f (right-table w h kind) table (λ e. n (is .0 ∙ e)),
+          λ e. is .1 .1 ∙ answered-left f (right-table w h kind) table (sym (is .0) ∙ e),
+          λ n. is .1 .1 ∙ refused-left f (right-table w h kind) table (λ e. n (is .0 ∙ e)),
         )
 
 -- A line's eight values, by its reply: "w, h, ox and oy of the area in force after the line", then the kind and its numbers, 0 in each place that it has none

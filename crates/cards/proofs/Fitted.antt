@@ -33,11 +33,6 @@ use Rattle.layouts.proofs.Accepting.{card-length, card-in-words, card-holds}
 use Rattle.cards.specs.Cards.{kind-known, write-guards, read-guards, write, read, file-after, table-after}
 use Rattle.cards.specs.Fitting.{says-right, write-on, read-on}
 
--- a refusal, also one that tells something, keeps what was lent
-kept-so : (r : Refusal) (told : List ℕ) {f : Figures} (new old : List ℕ) → refused-with r told ≡ f → old ≡ unless-refused f new old
-unfolding unless-refused
-kept-so r told new old e = rw (ne-eqb _ 0 (λ z. refusal-some r (ap (λ (f : Figures). f .refusal) e ∙ z)))
-
 module _ (w h kind : ℕ) (ok : accepted w h ≡ true) where
   shallow : not (some-deep w h) ≡ true
   shallow = ap not (not-deep w h ok)
@@ -50,13 +45,13 @@ module _ (w h kind : ℕ) (ok : accepted w h ≡ true) where
     pub other-length : (length file ≡ card-bytes w h → ⊥) → Written-so (refused TableLength 0) file
     other-length other =
         let is : refused TableLength 0 ≡ write-on w h kind table file = sym (rw (ne-eqb (length file) (card-bytes w h) other)) in
-        (is, kept-so TableLength [] (card w h kind) file is)
+        (is, kept TableLength [] (card w h kind) file is)
 
     module _ (size : length file ≡ card-bytes w h) where
       pub no-kind : kind-known kind ≡ false → Written-so (refused Departure 0) file
       no-kind none =
           let is : refused Departure 0 ≡ write-on w h kind table file = sym (rw (eq-eqb (length file) (card-bytes w h) size, shallow, none)) in
-          (is, kept-so Departure [] (card w h kind) file is)
+          (is, kept Departure [] (card w h kind) file is)
 
       module _ (known : kind-known kind ≡ true) {r : Bool} (tells : Tells r (table ≡ right-table w h kind)) where
         test : same-numbers table (right-table w h kind) ≡ r
@@ -66,7 +61,7 @@ module _ (w h kind : ℕ) (ok : accepted w h ≡ true) where
         wrong-table off =
             let is : refused Departure 0 ≡ write-on w h kind table file =
             sym (rw (eq-eqb (length file) (card-bytes w h) size, shallow, known, test ∙ off)) in
-            (is, kept-so Departure [] (card w h kind) file is)
+            (is, kept Departure [] (card w h kind) file is)
 
         pub written-so : r ≡ true → {after : List ℕ} → after ≡ card w h kind → Written-so (answered []) after
         written-so on is-card =
@@ -82,13 +77,13 @@ module _ (w h kind : ℕ) (ok : accepted w h ≡ true) where
     bad-block {bad} is-bad other =
         let is : refused-with BadCheck (bad ∷ []) ≡ read-on w h kind file =
         ap (λ (b : ℕ). refused-with BadCheck (b ∷ [])) is-bad ∙ sym (rw (ne-eqb (first-bad-in file) (whole-blocks file) (λ e. other (is-bad ∙ e)))) in
-        (is, kept-so BadCheck (bad ∷ []) (right-table w h kind) table is)
+        (is, kept BadCheck (bad ∷ []) (right-table w h kind) table is)
 
     module _ (none-bad : first-bad-in file ≡ whole-blocks file) where
       pub no-such-kind : kind-known kind ≡ false → Read-so (refused-with Departure (0 ∷ [])) table
       no-such-kind none =
           let is : refused-with Departure (0 ∷ []) ≡ read-on w h kind file = sym (rw (eq-eqb (first-bad-in file) (whole-blocks file) none-bad, none)) in
-          (is, kept-so Departure (0 ∷ []) (right-table w h kind) table is)
+          (is, kept Departure (0 ∷ []) (right-table w h kind) table is)
 
       module _ (known : kind-known kind ≡ true) {r : Bool} (tells : Tells r (file ≡ card w h kind)) where
         judged : same-numbers file (card w h kind) ≡ r
@@ -98,7 +93,7 @@ module _ (w h kind : ℕ) (ok : accepted w h ≡ true) where
         no-card off =
             let is : refused-with Departure (0 ∷ []) ≡ read-on w h kind file =
             sym (rw (eq-eqb (first-bad-in file) (whole-blocks file) none-bad, known, judged ∙ off)) in
-            (is, kept-so Departure (0 ∷ []) (right-table w h kind) table is)
+            (is, kept Departure (0 ∷ []) (right-table w h kind) table is)
 
         pub read-so : r ≡ true → {after : List ℕ} → after ≡ table-in (words-of file) (w * h) → Read-so (answered (0 ∷ [])) after
         read-so on {after} copied =
@@ -127,7 +122,7 @@ module _ (w h kind : ℕ) where
     unfolding write
     write-refused r e =
         let is = refused-first 3 (write-guards w h kind table (length file)) 0 [] refl r (sym (three-first table (length file)) ∙ e) in
-        (is, kept-so r [] (card w h kind) file is)
+        (is, kept r [] (card w h kind) file is)
 
     pub write-granted : admitted (table-guards w h (length table)) ≡ Granted → {answer : Figures} {after : List ℕ}
         → (answer ≡ write-on w h kind table file) × (after ≡ unless-refused (write-on w h kind table file) (card w h kind) file)
@@ -143,7 +138,7 @@ module _ (w h kind : ℕ) where
     unfolding read
     read-refused r e =
         let is = refused-first 4 (read-guards w h kind file (length table)) 1 (0 ∷ []) refl r e in
-        (is, kept-so r (0 ∷ []) (right-table w h kind) table is)
+        (is, kept r (0 ∷ []) (right-table w h kind) table is)
 
     pub read-granted : admitted (table-guards w h (length table)) ≡ Granted → {answer : Figures} {after : List ℕ}
         → (answer ≡ read-on w h kind file) × (after ≡ unless-refused (read-on w h kind file) (right-table w h kind) table)

@@ -23,6 +23,7 @@ use Rattle.sectors.specs.Sectors.{words-of, bytes-of, whole-blocks, first-bad-i
 use Rattle.sectors.proofs.Words.{Bytes, word-is}
 use Rattle.sectors.proofs.Changed.{one-byte}
 use Rattle.tables.specs.Tables.{by-number, by-square, unless-refused}
+use Rattle.tables.proofs.Admitted.{answered-left, refused-left}
 use Rattle.tables.proofs.PlaceByPlace.{due-length}
 use Rattle.layouts.specs.Layouts.{table-blocks, right-table, card, card-bytes}
 use Rattle.layouts.proofs.Accepting.{card-good, card-length}
@@ -35,16 +36,6 @@ use Rattle.cards.specs.Cards.{write-at, file-after-at, read-at, table-af
 use Rattle.cards.proofs.Refused.{Kind, No-kind, Fits, First-bad, first-bad-is, write-answered, read-answered, read-refused-14, block-told}
 use Rattle.cards.proofs.Refused.{no-block-told, measure-answered}
 use Rattle.cards.proofs.Departures.{word, card-says}
-
--- what is left: the card or the table where a call is answered, else what was lent
-module _ (f : Figures) (new old : List ℕ) where
-  answered-left : f .refusal ≡ 0 → unless-refused f new old ≡ new
-  unfolding unless-refused
-  answered-left e = rw (eq-eqb (f .refusal) 0 e)
-
-  refused-left : (f .refusal ≡ 0 → ⊥) → unless-refused f new old ≡ old
-  unfolding unless-refused
-  refused-left other = rw (ne-eqb (f .refusal) 0 other)
 
 -- "A refusal writes nothing."
 pub refused-writes-nothing : (w h kind : ℕ) (table file : List ℕ) → (write w h kind table file .refusal ≡ 0 → ⊥) → file-after w h kind table file ≡ file

@@ -1,7 +1,7 @@
 -- A call on the table of a whole area: what its guards come to, and that refusal 9 never arises.
 use mathlib.Core.Bool.{Bool, true, false, not}
 use mathlib.Core.List.{List, [], _∷_}
-use mathlib.Core.Path.{_≡_, refl, ap, _∙_}
+use mathlib.Core.Path.{_≡_, refl, sym, ap, _∙_}
 use Prim.Native.Nat.{ℕ, _+_, _*_}
 use native.Mathlib.Omega.{arith}
 use borrow.Author.Tests.{eq-eqb, ne-eqb, eqb-true, le-ltb}
@@ -11,7 +11,7 @@ use Rattle.terms.specs.declared.Refusal.{Refusal}
 use Rattle.terms.specs.declared.Refusal.the-variants.{TableLength}
 use Rattle.terms.specs.declared.Admission.{Admission}
 use Rattle.terms.specs.declared.Admission.the-variants.{Granted, Refused}
-use Rattle.terms.specs.Terms.{accepted, Figures, answered, refused}
+use Rattle.terms.specs.Terms.{accepted, Figures, answered, refused, refused-with}
 use Rattle.terms.specs.Guards.{_else_, admitted, guarded, then-guard, area-guards}
 use Rattle.terms.proofs.Limits.{limits, area-passed, both-accepted}
 use Rattle.terms.proofs.Guards.{_and_, passed, answered-so, refused-first, next, untried}
@@ -61,14 +61,21 @@ tried w h places in-limits step is =
     untried (table-guards w h places) 3 (lit< tt) (next (table-guards w h places) 2 (lit< tt) in-limits step (λ p. is))
     (λ p. ap not (not-deep w h (both-accepted w h (p .0) (p .1 .0))))
 
--- a refused table is kept, and one that is answered is filled
-pub kept : (r : Refusal) (n : ℕ) {f : Figures} (filled t : List ℕ) → refused r n ≡ f → t ≡ unless-refused f filled t
-unfolding unless-refused
-kept r n filled t e = rw (ne-eqb _ 0 (λ z. refusal-some r (ap (λ g. g .refusal) e ∙ z)))
+-- what is left of something lent: what is due where the call is answered, else what was there
+module _ (f : Figures) (due before : List ℕ) where
+  pub answered-left : f .refusal ≡ 0 → unless-refused f due before ≡ due
+  unfolding unless-refused
+  answered-left e = rw (eq-eqb (f .refusal) 0 e)
 
-pub given : (values : List ℕ) {f : Figures} (filled t : List ℕ) → f ≡ answered values → filled ≡ unless-refused f filled t
-unfolding unless-refused
-given values filled t e = rw (eq-eqb _ 0 (ap (λ g. g .refusal) e))
+  pub refused-left : (f .refusal ≡ 0 → ⊥) → unless-refused f due before ≡ before
+  unfolding unless-refused
+  refused-left other = rw (ne-eqb (f .refusal) 0 other)
+
+pub kept : (r : Refusal) (told : List ℕ) {f : Figures} (due before : List ℕ) → refused-with r told ≡ f → before ≡ unless-refused f due before
+kept r told {f} due before e = sym (refused-left f due before (λ z. refusal-some r (ap (λ (g : Figures). g .refusal) e ∙ z)))
+
+pub given : (values : List ℕ) {f : Figures} (due before : List ℕ) → f ≡ answered values → due ≡ unless-refused f due before
+given values {f} due before e = sym (answered-left f due before (ap (λ (g : Figures). g .refusal) e))
 
 -- the whole area is then a block that a walk can take
 pub block-fits : (kind : Bool) (w h size : ℕ) → accepted w h ≡ true → size ≡ w * h → (k : Block) → k ≡ whole w h → Walks.Fits kind w h size k 0

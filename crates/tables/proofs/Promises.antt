@@ -24,7 +24,7 @@ use Rattle.tables.specs.declared.FillAnswer as FillAnswers
 use Rattle.tables.specs.declared.CheckAnswer as CheckAnswers
 use Rattle.tables.specs.Tables.{by-number, by-square, due-by, judged, table-guards, unless-refused, fill, check, fill-figures, check-figures}
 use Rattle.tables.specs.Tables.{fill-at, filled-at, check-at}
-use Rattle.tables.proofs.Admitted.{table-granted, taken, given}
+use Rattle.tables.proofs.Admitted.{table-granted, taken, given, answered-left, refused-left}
 use Rattle.tables.proofs.FirstWrong.{judged-right}
 use Rattle.tables.proofs.PlaceByPlace.{place-holds, values-below, due-there, looked-for, looked-below, looked-at, due-length}
 
@@ -179,13 +179,11 @@ module _ (w h : ℕ) (t : List ℕ) where
 
   -- What an answered fill leaves is the table of its kind, whole.
   pub filled-so : (ds : List ℕ) → fill w h t .refusal ≡ 0 → unless-refused (fill w h t) ds t ≡ ds
-  unfolding unless-refused
-  filled-so ds answer = rw (eq-eqb (fill w h t .refusal) 0 answer)
+  filled-so ds answer = answered-left (fill w h t) ds t answer
 
   -- Demand 1: a refused table is unaltered.
   pub refused-unaltered : (ds : List ℕ) → (fill w h t .refusal ≡ 0 → ⊥) → unless-refused (fill w h t) ds t ≡ t
-  unfolding unless-refused
-  refused-unaltered ds no-answer = rw (ne-eqb (fill w h t .refusal) 0 no-answer)
+  refused-unaltered ds no-answer = refused-left (fill w h t) ds t no-answer
 
 module _ (w h : ℕ) (kind : Bool) (t : List ℕ) where
   pub first-wrong-place : (place value : ℕ) → check w h (due-by kind w h) t ≡ answered (1 ∷ place ∷ value ∷ []) → First (due-by kind w h) t place value

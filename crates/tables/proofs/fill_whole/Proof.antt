@@ -30,7 +30,7 @@ returns c =
     let w = start .args .area .w in
     let h = start .args .area .h in
     let is = table-refused w h (start .args .table .now) 1 (length (blocks (whole w h)) ∷ []) r (sym (judged .admit .ensures) ∙ refused .r .given .1) in
-    (is, kept r 1 _ _ is)
+    (is, kept r (0 ∷ []) _ _ is)
 
 returns-2 : tie.Need-returns-2
 unfolding fill
