@@ -2,3 +2,4 @@ pub mod Fitted
 pub mod Refused
 pub mod Departures
 pub mod Promises
+pub mod Exactly

@@ -124,3 +124,13 @@ unfolding sum
 sum-more vs i l =
     ap (λ (n : ℕ). sum (take n vs)) (add-one i) ∙ ap sum (take-suc vs i 0 l) ∙ sum-append (take i vs) (getD vs i 0 ∷ [])
     ∙ ap (λ (n : ℕ). sum (take i vs) + n) (let z : getD vs i 0 + 0 ≡ getD vs i 0 = omega arith in z)
+
+-- "little-endian": of the four bytes of word i the first is its lowest
+pub lowest-first : (vs : List ℕ) (i : ℕ) → i < length vs
+    → (getD (bytes-of vs) (4 * i) 0 ≡ getD vs i 0 % 256)
+    × ((getD (bytes-of vs) (4 * i + 1) 0 ≡ getD vs i 0 / 256 % 256)
+    × ((getD (bytes-of vs) (4 * i + 2) 0 ≡ getD vs i 0 / 256 / 256 % 256) × (getD (bytes-of vs) (4 * i + 3) 0 ≡ getD vs i 0 / 256 / 256 / 256)))
+unfolding bytes-of
+lowest-first [] i l = absurd (omega arith)
+lowest-first (v ∷ vs) zero l = (refl, (refl, (refl, refl)))
+lowest-first (v ∷ vs) (suc i) l = rw (four-on i 1, four-on i 2, four-on i 3, four-more i) (lowest-first vs i (omega arith))
