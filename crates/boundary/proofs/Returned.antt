@@ -5,7 +5,7 @@ use mathlib.Core.Bool.{Bool, true, false, cond}
 use mathlib.Core.List.{List, [], _∷_, _++_}
 use mathlib.Core.Path.{_≡_, refl, sym, ap, _∙_}
 use Prim.Native.Nat.{ℕ, _*_, _≤_, _<_}
-use borrow.Author.Tests.{le-leb, lt-leb, eq-eqb, ne-eqb}
+use borrow.Author.Tests.{le-leb, lt-leb}
 use lib.Dec.{leb}
 use lib.IntN.{ℤ, pos}
 use lib.ListN.{length, drop}
@@ -15,7 +15,7 @@ use Rattle.terms.specs.declared.Refusal.the-variants.{AreaLimit, TooManySquares
 use Rattle.terms.specs.Terms.{lengths-accepted, squares-accepted, FiguresOf, Figures, answered, refused, refusal-number}
 use Rattle.terms.proofs.Refusals.{refusal-some}
 use Rattle.curve.specs.Lookups.{number-to-square-at, square-to-number-at, finish-square-at}
-use Rattle.tables.specs.Tables.{by-number, by-square, unless-refused, fill-at, filled-at, check-at}
+use Rattle.tables.specs.Tables.{by-number, by-square, fill-at, filled-at, check-at}
 use Rattle.tables.proofs.Admitted.{answered-left, refused-left}
 use Rattle.layouts.specs.Layouts.{right-table, card, card-bytes}
 use Rattle.cards.specs.Cards.{measure, write, read, measure-at, write-at, file-after-at, read-at, table-after, table-after-at}

@@ -31,6 +31,8 @@ unused (suc n) words = sum (drop (getD words 126 0) (take 126 words)) + unused n
 pub data Case : Type 0 where
   -- the card of a w by h area and a kind, in short
   cards : (w h kind : ℕ) (short : List ℕ) → Case
+  -- the first bytes of the card of any table
+  begins : (w h kind : ℕ) (table bytes : List ℕ) → Case
   -- how many bytes a file must have, or the refusal
   measures : (w h refusal bytes : ℕ) → Case
   -- a table is written into a file of so many bytes: the refusal, and what is left in the file
@@ -44,6 +46,7 @@ right (cards w h kind short) =
     same-numbers (in-short (length file / 512) (words-of file)) short
     && eqb (unused (length file / 512) (words-of file)) 0
     && eqb (length file) (512 * (length file / 512))
+right (begins w h kind table bytes) = same-numbers (take (length bytes) (card-of w h kind table)) bytes
 right (measures w h refusal bytes) = same-figures (measure-at (at w h)) refusal (bytes ∷ [])
 right (writes w h kind table bytes refusal left) =
     let file : List ℕ = replicate bytes 7 in
@@ -92,6 +95,8 @@ worked =
     80 ∷ 81 ∷ 82 ∷ 83 ∷ 84 ∷ 85 ∷ 86 ∷ 87 ∷ 88 ∷ 89 ∷ 90 ∷ 91 ∷ 92 ∷ 93 ∷ 94 ∷ 95 ∷ 96 ∷ 97 ∷ 98 ∷ 99 ∷ 100 ∷ 101 ∷ 102 ∷ 103 ∷ 104 ∷ 105 ∷
     106 ∷ 107 ∷ 108 ∷ 109 ∷ 110 ∷ 111 ∷ 112 ∷ 113 ∷ 114 ∷ 115 ∷ 116 ∷ 117 ∷ 118 ∷ 119 ∷ 120 ∷ 121 ∷ 122 ∷ 123 ∷ 124 ∷ 125 ∷ 126 ∷ 8002 ∷ 126 ∷
     1 ∷ 128 ∷ [])
+    -- "little-endian": 300 is 44 and 1, 513 is 1 and 2
+    ∷ begins 300 513 2 (7 ∷ []) (1 ∷ 0 ∷ 0 ∷ 0 ∷ 44 ∷ 1 ∷ 0 ∷ 0 ∷ 1 ∷ 2 ∷ 0 ∷ 0 ∷ 2 ∷ 0 ∷ 0 ∷ 0 ∷ 0 ∷ [])
     -- how long a file must be: two blocks for up to 126 squares
     ∷ measures 1 1 0 1024
     ∷ measures 14 9 0 1024
@@ -105,6 +110,8 @@ worked =
     ∷ writes 2 2 2 (0 ∷ 3 ∷ 1 ∷ 2 ∷ []) 1024 0 (card 2 2 2)
     ∷ writes 2 2 2 (0 ∷ 2 ∷ 3 ∷ 1 ∷ []) 1024 15 (replicate 1024 7)
     ∷ writes 2 2 1 (0 ∷ 2 ∷ 3 ∷ 1 ∷ []) 1024 0 (card 2 2 1)
+    ∷ writes 3 2 1 (0 ∷ 3 ∷ 4 ∷ 5 ∷ 2 ∷ 1 ∷ []) 1024 0 (card 3 2 1)
+    ∷ writes 2 3 1 (0 ∷ 3 ∷ 4 ∷ 5 ∷ 2 ∷ 1 ∷ []) 1024 15 (replicate 1024 7)
     ∷ writes 2 2 3 (0 ∷ 2 ∷ 3 ∷ 1 ∷ []) 1024 15 (replicate 1024 7)
     ∷ writes 2 2 0 (0 ∷ 2 ∷ 3 ∷ 1 ∷ []) 1024 15 (replicate 1024 7)
     ∷ writes 2 2 3 (0 ∷ 2 ∷ 3 ∷ 1 ∷ []) 1023 4 (replicate 1023 7)
@@ -117,6 +124,8 @@ worked =
     ∷ reads 2 2 1 (card 2 2 1) 4 0 0 (0 ∷ 2 ∷ 3 ∷ 1 ∷ [])
     ∷ reads 2 2 2 (card 2 2 2) 4 0 0 (0 ∷ 3 ∷ 1 ∷ 2 ∷ [])
     ∷ reads 2 2 2 (card 2 2 1) 4 15 0 (7 ∷ 7 ∷ 7 ∷ 7 ∷ [])
+    ∷ reads 3 2 1 (card 3 2 1) 6 0 0 (0 ∷ 3 ∷ 4 ∷ 5 ∷ 2 ∷ 1 ∷ [])
+    ∷ reads 2 3 1 (card 3 2 1) 6 15 0 (7 ∷ 7 ∷ 7 ∷ 7 ∷ 7 ∷ 7 ∷ [])
     ∷ reads 2 2 1 (card 2 2 1) 3 4 0 (7 ∷ 7 ∷ 7 ∷ [])
     ∷ reads 0 2 1 (card 2 2 1) 4 1 0 (7 ∷ 7 ∷ 7 ∷ 7 ∷ [])
     ∷ reads 65535 257 1 [] 1 13 0 (7 ∷ [])
