@@ -132,7 +132,10 @@ module _ (file : List ℕ) (p v : ℕ) (whole : length file % 4 ≡ 0) (l : p < 
       where
         by : (b : Bool) → eqb q p ≡ b → getD (set file p v) q 0 < 256
         by true e = let is = ap (λ (k : ℕ). getD (set file p v) k 0) (eqb-true q p e) ∙ getD-set-same file p v 0 l in omega arith
-        by false e = let is = kept q (eqb-false q p e) in let small = bytes q (let z = same-length in omega arith) in omega arith
+        by false e =
+            let is = kept q (eqb-false q p e) in
+            let small = bytes q (let z = same-length in omega arith) in
+            omega arith
 
     -- were the word the same, so would the bytes be
     word-differs : getD (words-of file) (p / 4) 0 ≡ new → ⊥

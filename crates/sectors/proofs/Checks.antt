@@ -16,7 +16,10 @@ good-at words b = good (drop (128 * b) words)
 
 -- as a loop goes: with the blocks before b looked at, the first bad one is the first of those that are left
 pub none-yet : (n : ℕ) (words : List ℕ) → first-bad n words ≡ 0 + first-bad (n - 0) words
-none-yet n words = let all : n ≡ n - 0 = omega arith in let same = ap (λ (k : ℕ). first-bad k words) all in omega (arith, same)
+none-yet n words =
+    let all : n ≡ n - 0 = omega arith in
+    let same = ap (λ (k : ℕ). first-bad k words) all in
+    omega (arith, same)
 
 module _ (n b : ℕ) (words : List ℕ) (more : b < n) (so-far : first-bad n words ≡ b + first-bad (n - b) (drop (128 * b) words)) where
   left : n - b ≡ suc (n - (b + 1))

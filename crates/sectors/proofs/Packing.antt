@@ -29,7 +29,9 @@ module _ (vs : List ℕ) (few : length vs ≤ 126) where
 
   content-length : length content ≡ 126
   unfolding content
-  content-length = let zeros = length-replicate {A = ℕ} (126 - length vs) 0 in length-append vs (replicate {A = ℕ} (126 - length vs) 0) ∙ omega (arith, zeros)
+  content-length =
+      let zeros = length-replicate {A = ℕ} (126 - length vs) 0 in
+      length-append vs (replicate {A = ℕ} (126 - length vs) 0) ∙ omega (arith, zeros)
 
   counted-length : length (counted vs) ≡ 127
   unfolding content

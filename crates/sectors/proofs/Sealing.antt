@@ -41,7 +41,9 @@ module _ (words vs : List ℕ) (b n : ℕ) (room : 128 * b + 128 ≤ length word
 
   full-long : length full ≡ 126
   unfolding full
-  full-long = let zeros = length-replicate {A = ℕ} (126 - n) 0 in length-append vs (replicate {A = ℕ} (126 - n) 0) ∙ omega (arith, zeros)
+  full-long =
+      let zeros = length-replicate {A = ℕ} (126 - n) 0 in
+      length-append vs (replicate {A = ℕ} (126 - n) 0) ∙ omega (arith, zeros)
 
   pub block-written : {content padded block : List ℕ} → content ≡ sets words (128 * b) vs → padded ≡ sets content (128 * b + n) (replicate {A = ℕ} (126 - n) 0)
       → block ≡ sealed-at padded b n → block ≡ sets words (128 * b) (sealed vs)

@@ -11,35 +11,45 @@ use Rattle.sectors.proofs.first_bad.Statement.{statement}
 use Rattle.sectors.proofs.first_bad.Tie as tie
 
 abbrev Inv-good-so-far : tie.InvT-loop
-Inv-good-so-far bytes blocks b₀ b = (b ≤ blocks) × (first-bad blocks (words-of bytes) ≡ b + first-bad (blocks - b) (drop (128 * b) (words-of bytes)))
+Inv-good-so-far bytes blocks b₀ b =
+    (b ≤ blocks) × (first-bad blocks (words-of bytes) ≡ b + first-bad (blocks - b) (drop (128 * b) (words-of bytes)))
 
 abbrev μ-left : tie.MeasureT-loop
 μ-left bytes blocks b₀ b = blocks - b
 
 loop-holds : tie.Need-loop-holds Inv-good-so-far μ-left
-loop-holds c = let bytes = c .before .args .bytes .now in
+loop-holds c =
+    let bytes = c .before .args .bytes .now in
     (omega arith, none-yet (length bytes / 512) (words-of bytes))
 
 returns : tie.Need-returns Inv-good-so-far μ-left
-returns c = let turn = c .before .before .before .before in
+returns c =
+    let due = c .before in
+    let read = due .before in
+    let test = read .before in
+    let turn = test .before in
     let bytes = turn .before .before .args .bytes .now in
-    bad-here (length bytes / 512) (turn .loop .b) (words-of bytes) (c .before .before .before .loop-test .taken) (turn .loop .inv .1)
-    (λ e. c .if1 .taken (c .before .before .word-at .ensures ∙ e ∙ sym (c .before .check-due .ensures)))
+    bad-here (length bytes / 512) (turn .loop .b) (words-of bytes) (test .loop-test .taken) (turn .loop .inv .1)
+    (λ e. c .if1 .taken (read .word-at .ensures ∙ e ∙ sym (due .check-due .ensures)))
 
 loop-again : tie.Need-loop-again Inv-good-so-far μ-left
-loop-again c = let turn = c .before .before .before .before in
+loop-again c =
+    let due = c .before in
+    let read = due .before in
+    let test = read .before in
+    let turn = test .before in
     let bytes = turn .before .before .args .bytes .now in
-    let more = c .before .before .before .loop-test .taken in (
+    let more = test .loop-test .taken in (
       omega arith,
       good-more (length bytes / 512) (turn .loop .b) (words-of bytes) more (turn .loop .inv .1)
-          (sym (c .before .before .word-at .ensures) ∙ c .if1 .left ∙ c .before .check-due .ensures),
+          (sym (read .word-at .ensures) ∙ c .if1 .left ∙ due .check-due .ensures),
     )
 
 returns-2 : tie.Need-returns-2 Inv-good-so-far μ-left
-returns-2 c = let turn = c .before in
-    let bytes = turn .before .before .args .bytes .now in
-    none-left (length bytes / 512) (turn .loop .b) (words-of bytes) (drop (128 * turn .loop .b) (words-of bytes)) (c .loop-test .left) (turn .loop .inv .0)
-    (turn .loop .inv .1)
+returns-2 c =
+    let turn = c .before in
+    let words = words-of (turn .before .before .args .bytes .now) in
+    none-left _ (turn .loop .b) words (drop (128 * turn .loop .b) words) (c .loop-test .left) (turn .loop .inv .0) (turn .loop .inv .1)
 
 pub first-bad-spec : {M : Type 1} → statement M
 first-bad-spec =

@@ -18,28 +18,42 @@ abbrev μ-left : tie.MeasureT-loop
 μ-left bytes b used j₀ j = 126 - j
 
 loop-holds : tie.Need-loop-holds Inv-zero-so-far μ-left
-loop-holds c = let most = c .before .pre .1 in (omega arith, omega arith, λ i m l. absurd (omega arith))
+loop-holds c =
+    let most = c .before .pre .1 in
+    (omega arith, omega arith, λ i m l. absurd (omega arith))
 
 returns : tie.Need-returns Inv-zero-so-far μ-left
-returns c = let turn = c .before .before .before in
-    refuses (λ framed. c .if1 .taken (c .before .word-at .ensures ∙ framed .0 (turn .loop .j) (turn .loop .inv .0) (c .before .before .loop-test .taken)))
+returns c =
+    let read = c .before in
+    let test = read .before in
+    let turn = test .before in
+    refuses (λ framed. c .if1 .taken (read .word-at .ensures ∙ framed .0 (turn .loop .j) (turn .loop .inv .0) (test .loop-test .taken)))
 
 loop-again : tie.Need-loop-again Inv-zero-so-far μ-left
-loop-again c = let turn = c .before .before .before in
+loop-again c =
+    let read = c .before in
+    let test = read .before in
+    let turn = test .before in
     let given = turn .before .before .args in
+    let words = words-of (given .bytes .now) in
     let least = turn .loop .inv .0 in
-    let more = c .before .before .loop-test .taken in (
+    let more = test .loop-test .taken in (
       omega arith,
       omega arith,
-      between-more (λ i. getD (words-of (given .bytes .now)) (128 * given .b + i) 0 ≡ 0) (given .used) (turn .loop .j) (turn .loop .inv .2) (sym (c .before .word-at .ensures) ∙ c .if1 .left),
+      between-more (λ i. getD words (128 * given .b + i) 0 ≡ 0) (given .used) (turn .loop .j) (turn .loop .inv .2)
+          (sym (read .word-at .ensures) ∙ c .if1 .left),
     )
 
 returns-2 : tie.Need-returns-2 Inv-zero-so-far μ-left
-returns-2 c = let turn = c .before .before in
+returns-2 c =
+    let end = c .before in
+    let turn = end .before in
     let given = turn .before .before .args in
-    let last : turn .loop .j ≡ 126 = let most = turn .loop .inv .1 in let end = c .before .loop-test .left in omega arith in
-    tells-equal (c .word-at2 .result) (given .used) (λ e. (λ i m l. turn .loop .inv .2 i m (omega arith), sym (c .word-at2 .ensures) ∙ e))
-    (λ framed. c .word-at2 .ensures ∙ framed .1)
+    let most = turn .loop .inv .1 in
+    let last = end .loop-test .left in
+    let is-count = c .word-at2 .ensures in
+    tells-equal (c .word-at2 .result) (given .used) (λ e. (λ i m l. turn .loop .inv .2 i m (omega arith), sym is-count ∙ e))
+    (λ framed. is-count ∙ framed .1)
 
 pub is-framed-spec : {M : Type 1} → statement M
 is-framed-spec =

@@ -19,7 +19,8 @@ slice-write-bytes-4 : tie.Need-slice-write-bytes-4
 slice-write-bytes-4 c = simp length-set (omega arith)
 
 returns : tie.Need-returns
-returns c = let bytes = c .args .bytes .now in
+returns c =
+    let bytes = c .args .bytes .now in
     let i = c .args .i in
     let v = c .args .v in
     words-set bytes i (v % 256) (v / 256 % 256) (v / 256 / 256 % 256) (v / 256 / 256 / 256) (c .pre) ∙ ap (set (words-of bytes) i) (digits v)

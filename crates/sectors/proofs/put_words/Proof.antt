@@ -1,9 +1,9 @@
 -- `sectors::put_words` meets its contract. The invariant: the first i words are entered; the measure is what is left of them.
 use mathlib.Core.Path.{_≡_, refl, _∙_, sym}
-use Prim.Native.Nat.{_-_, _+_, _≤_}
+use Prim.Native.Nat.{_-_, _≤_}
 use native.Mathlib.Omega.{arith}
 use borrow.Author.Needs.{needs}
-use lib.ListN.{length, take, getD}
+use lib.ListN.{length, take}
 use lib.Seq.{sets}
 use Rattle.sectors.specs.Sectors.{words-of}
 use Rattle.sectors.specs.Steps.{slice}
@@ -12,7 +12,8 @@ use Rattle.sectors.proofs.put_words.Statement.{statement}
 use Rattle.sectors.proofs.put_words.Tie as tie
 
 abbrev Inv-entered : tie.InvT-loop
-Inv-entered bytes₀ at words from n i₀ bytes i = (i ≤ n) × (length bytes ≡ length bytes₀) × (words-of bytes ≡ sets (words-of bytes₀) at (take i (slice words from n)))
+Inv-entered bytes₀ at words from n i₀ bytes i =
+    (i ≤ n) × (length bytes ≡ length bytes₀) × (words-of bytes ≡ sets (words-of bytes₀) at (take i (slice words from n)))
 
 abbrev μ-left : tie.MeasureT-loop
 μ-left bytes₀ at words from n i₀ bytes i = n - i
@@ -21,34 +22,40 @@ loop-holds : tie.Need-loop-holds Inv-entered μ-left
 loop-holds c = (omega arith, refl, refl)
 
 put-word-requires : tie.Need-put-word-requires Inv-entered μ-left
-put-word-requires c κs = let same = c .before .before .before .loop .inv .1 in
+put-word-requires c κs =
+    let turn = c .before .before .before in
+    let same = turn .loop .inv .1 in
     omega arith
 
 loop-again : tie.Need-loop-again Inv-entered μ-left
-loop-again c = let turn = c .before .before .before .before .before .before in
+loop-again c =
+    let put = c .before .before in
+    let test = put .before .before .before in
+    let turn = test .before in
     let start = turn .before .before .before in
     let given = start .args in
-    let room = start .pre .1 in
-    let more = c .before .before .before .before .before .loop-test .taken in
-    let vs = slice (given .words .now) (given .from) (given .n) in
-    let long = slice-length (given .words .now) (given .from) (given .n) room in (
+    let words = given .words .now in
+    let more = test .loop-test .taken in
+    let long = slice-length words (given .from) (given .n) (start .pre .1) in (
       omega arith,
-      c .before .before .put-word .kept .0 ∙ turn .loop .inv .1,
-      c .before .before .put-word .ensures
-          ∙ one-more (words-of (given .bytes .now)) (given .at) vs (turn .loop .i) (getD (given .words .now) (given .from + turn .loop .i) 0) (omega arith)
-          (sym (slice-at (given .words .now) (given .from) (given .n) (turn .loop .i) more)) (turn .loop .inv .2),
+      put .put-word .kept .0 ∙ turn .loop .inv .1,
+      put .put-word .ensures
+          ∙ one-more (words-of (given .bytes .now)) (given .at) (slice words (given .from) (given .n)) (turn .loop .i) _ (omega arith)
+          (sym (slice-at words (given .from) (given .n) (turn .loop .i) more)) (turn .loop .inv .2),
     )
 
 same-length : tie.Need-same-length Inv-entered μ-left
 same-length c = c .before .loop .inv .1
 
 returns : tie.Need-returns Inv-entered μ-left
-returns c = let turn = c .before in
+returns c =
+    let turn = c .before in
     let start = turn .before .before .before in
     let given = start .args in
+    let words = given .words .now in
     let last = c .loop-test .left in
-    let long = slice-length (given .words .now) (given .from) (given .n) (start .pre .1) in
-    all-entered (words-of (given .bytes .now)) (given .at) (slice (given .words .now) (given .from) (given .n)) (turn .loop .i) (omega arith) (turn .loop .inv .2)
+    let long = slice-length words (given .from) (given .n) (start .pre .1) in
+    all-entered (words-of (given .bytes .now)) (given .at) (slice words (given .from) (given .n)) (turn .loop .i) (omega arith) (turn .loop .inv .2)
 
 pub put-words-spec : {M : Type 1} → statement M
 put-words-spec =

@@ -11,7 +11,8 @@ use Rattle.sectors.proofs.put_zeros.Statement.{statement}
 use Rattle.sectors.proofs.put_zeros.Tie as tie
 
 abbrev Inv-entered : tie.InvT-loop
-Inv-entered bytes₀ at n i₀ bytes i = (i ≤ n) × (length bytes ≡ length bytes₀) × (words-of bytes ≡ sets (words-of bytes₀) at (take i (replicate {A = ℕ} n 0)))
+Inv-entered bytes₀ at n i₀ bytes i =
+    (i ≤ n) × (length bytes ≡ length bytes₀) × (words-of bytes ≡ sets (words-of bytes₀) at (take i (replicate {A = ℕ} n 0)))
 
 abbrev μ-left : tie.MeasureT-loop
 μ-left bytes₀ at n i₀ bytes i = n - i
@@ -20,18 +21,22 @@ loop-holds : tie.Need-loop-holds Inv-entered μ-left
 loop-holds c = (omega arith, refl, refl)
 
 put-word-requires : tie.Need-put-word-requires Inv-entered μ-left
-put-word-requires c κs = let same = c .before .before .loop .inv .1 in
+put-word-requires c κs =
+    let turn = c .before .before in
+    let same = turn .loop .inv .1 in
     omega arith
 
 loop-again : tie.Need-loop-again Inv-entered μ-left
-loop-again c = let turn = c .before .before .before .before .before in
-    let start = turn .before .before in
-    let given = start .args in
-    let more = c .before .before .before .before .loop-test .taken in
+loop-again c =
+    let put = c .before .before in
+    let test = put .before .before in
+    let turn = test .before in
+    let given = turn .before .before .args in
+    let more = test .loop-test .taken in
     let long = length-replicate {A = ℕ} (given .n) 0 in (
       omega arith,
-      c .before .before .put-word .kept .0 ∙ turn .loop .inv .1,
-      c .before .before .put-word .ensures
+      put .put-word .kept .0 ∙ turn .loop .inv .1,
+      put .put-word .ensures
           ∙ one-more (words-of (given .bytes .now)) (given .at) (replicate {A = ℕ} (given .n) 0) (turn .loop .i) 0 (omega arith)
           (sym (zero-at (given .n) (turn .loop .i))) (turn .loop .inv .2),
     )
@@ -40,7 +45,8 @@ same-length : tie.Need-same-length Inv-entered μ-left
 same-length c = c .before .loop .inv .1
 
 returns : tie.Need-returns Inv-entered μ-left
-returns c = let turn = c .before in
+returns c =
+    let turn = c .before in
     let given = turn .before .before .args in
     let last = c .loop-test .left in
     let long = length-replicate {A = ℕ} (given .n) 0 in

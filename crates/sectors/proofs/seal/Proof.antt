@@ -8,12 +8,16 @@ use Rattle.sectors.proofs.seal.Statement.{statement}
 use Rattle.sectors.proofs.seal.Tie as tie
 
 returns : tie.Need-returns
-returns c = let start = c .before .before .before .before .before .before .before .before .before .before .before in
+returns c =
+    let checked = c .before .before in
+    let summed = checked .before .before in
+    let counted = summed .before .before .before .before in
+    let start = counted .before .before .before in
     let given = start .args in
     let room = start .pre .0 in
     let all = words-length (given .bytes .now) in
-    count-and-check (words-of (given .bytes .now)) (given .b) (given .used) (c .before .before .before .before .check-due .result) (omega arith) (c .before .before .before .before .before .before .before .before .put-word .ensures) (c .before .before .before .before .check-due .ensures)
-    (c .before .before .put-word2 .ensures)
+    count-and-check (words-of (given .bytes .now)) (given .b) (given .used) (summed .check-due .result) (omega arith) (counted .put-word .ensures)
+    (summed .check-due .ensures) (checked .put-word2 .ensures)
 
 pub seal-spec : {M : Type 1} → statement M
 seal-spec =

@@ -1,9 +1,9 @@
 -- `sectors::sum_from` meets its contract. The invariant: the sum of the first i words, and at most i times the largest; the measure is what is left of 127.
 use mathlib.Core.Path.{_≡_, refl, _∙_, ap, ap₂, sym}
-use Prim.Native.Nat.{ℕ, _+_, _*_, _-_, _≤_, _/_}
+use Prim.Native.Nat.{ℕ, _+_, _*_, _-_, _≤_}
 use native.Mathlib.Omega.{arith}
 use borrow.Author.Needs.{needs}
-use lib.ListN.{length, drop, length-drop}
+use lib.ListN.{drop, length-drop}
 use lib.Seq.{getD-drop}
 use Rattle.sectors.specs.Sectors.{words-of}
 use Rattle.sectors.specs.Sectors as Sectors
@@ -23,26 +23,33 @@ unfolding Sectors.sum
 loop-holds c = (omega arith, omega arith, refl)
 
 loop-again : tie.Need-loop-again Inv-summed μ-left
-loop-again c = let start = c .before .before .before .before in
-    let i = c .before .before .loop .i in
+loop-again c =
+    let test = c .before in
+    let turn = test .before in
+    let start = turn .before .before in
     let at = start .args .at in
-    let words = words-of (start .args .bytes .now) in
-    let more = c .before .loop-test .taken in
+    let bytes = start .args .bytes .now in
+    let rest = drop at (words-of bytes) in
     let room = start .pre in
-    let long : length (drop at words) ≡ length (start .args .bytes .now) / 4 - at =
-    length-drop at words ∙ ap (λ (n : ℕ). n - at) (words-length (start .args .bytes .now)) in (
+    let more = test .loop-test .taken in
+    let all = words-length bytes in
+    let long = length-drop at (words-of bytes) in (
       omega arith,
       omega arith,
-      ap₂ _+_ (c .before .before .loop .inv .2) (c .word-at .ensures ∙ sym (getD-drop at words i 0)) ∙ sym (sum-more (drop at words) i (omega arith)),
+      ap₂ _+_ (turn .loop .inv .2) (c .word-at .ensures ∙ sym (getD-drop at (words-of bytes) (turn .loop .i) 0))
+          ∙ sym (sum-more rest (turn .loop .i) (omega arith)),
     )
 
 returns : tie.Need-returns Inv-summed μ-left
-returns c = let turn = c .before in
-    let start = turn .before .before in
-    let all : turn .loop .i ≡ 127 = let most = turn .loop .inv .0 in let last = c .loop-test .left in omega arith in
-    let most = turn .loop .inv .1 in (
+returns c =
+    let turn = c .before in
+    let given = turn .before .before .args in
+    let most = turn .loop .inv .0 in
+    let last = c .loop-test .left in
+    let all : turn .loop .i ≡ 127 = omega arith in
+    let small = turn .loop .inv .1 in (
       omega arith,
-      turn .loop .inv .2 ∙ ap (λ (n : ℕ). Sectors.sum (slice (words-of (start .args .bytes .now)) (start .args .at) n)) all,
+      turn .loop .inv .2 ∙ ap (λ (n : ℕ). Sectors.sum (slice (words-of (given .bytes .now)) (given .at) n)) all,
     )
 
 pub sum-from-spec : {M : Type 1} → statement M

@@ -6,7 +6,8 @@ use Rattle.sectors.proofs.word_at.Statement.{statement}
 use Rattle.sectors.proofs.word_at.Tie as tie
 
 returns : tie.Need-returns
-returns c = let start = c .before .before .before .before .before .before in
+returns c =
+    let start = c .before .before .before .before .before .before in
     c .word-of .ensures ∙ sym (word-is (start .args .bytes .now) (start .args .i) (start .pre))
 
 pub word-at-spec : {M : Type 1} → statement M

@@ -10,12 +10,18 @@ use Rattle.sectors.proofs.write_block.Statement.{statement}
 use Rattle.sectors.proofs.write_block.Tie as tie
 
 returns : tie.Need-returns
-returns c = let start = c .before .before .before .before .before .before .before .before .before .before .before .before .before .before in
+returns c =
+    let sealed = c .before .before in
+    let padded = sealed .before .before .before .before in
+    let entered = padded .before .before .before .before in
+    let start = entered .before .before .before .before in
     let given = start .args in
+    let words = given .words .now in
     let room = start .pre .0 in
     let all = words-length (given .bytes .now) in
-    block-written (words-of (given .bytes .now)) (slice (given .words .now) (given .from) (given .n)) (given .b) (given .n) (omega arith)
-    (slice-length (given .words .now) (given .from) (given .n) (start .pre .2)) (start .pre .1) (c .before .before .before .before .before .before .before .before .before .before .put-words .ensures) (c .before .before .before .before .before .before .put-zeros .ensures) (c .before .before .seal .ensures)
+    let long = slice-length words (given .from) (given .n) (start .pre .2) in
+    block-written (words-of (given .bytes .now)) (slice words (given .from) (given .n)) (given .b) (given .n) (omega arith) long (start .pre .1)
+    (entered .put-words .ensures) (padded .put-zeros .ensures) (sealed .seal .ensures)
 
 pub write-block-spec : {M : Type 1} → statement M
 write-block-spec =
