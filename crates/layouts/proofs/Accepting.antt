@@ -192,7 +192,10 @@ module _ (w h : ℕ) (t : Limits w h) (kind : ℕ) (file : List ℕ) where
       whole = long ∙ ap (λ (k : ℕ). 512 * (1 + table-blocks k)) (sym due-places)
 
       words-long : length (words-of file) ≡ 128 * (1 + table-blocks (length due))
-      words-long = let all = words-length file in let z = whole in omega arith
+      words-long =
+          let all = words-length file in
+          let z = whole in
+          omega arith
 
       goods : (b : ℕ) → b < 1 + table-blocks (length due) → good-at (words-of file) b ≡ true
       goods b l = found (whole-blocks file) (words-of file) .0 b (subst⁻¹ (λ (k : ℕ). b < k) none (let z = whole in omega arith))

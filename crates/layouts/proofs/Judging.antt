@@ -69,7 +69,10 @@ module _ (w h first m : ℕ) (t : Limits w h) (room : first + m ≤ w * h) {es :
       List·getD-append es rest 0 i (let z = front-length in omega arith) ∙ ap (λ (ps : List ℕ). getD ps i 0) is ∙ slice-at (entries w h) first m i l
 
   pub enough : m ≤ length (es ++ rest)
-  enough = let front = front-length in let sum = length-append es rest in omega arith
+  enough =
+      let front = front-length in
+      let sum = length-append es rest in
+      omega arith
 
   pub all-below : Below (es ++ rest) m (w * h)
   all-below i l =

@@ -8,7 +8,9 @@ returns : tie.Need-returns
 returns c = refuses (λ headed. said-no (c .before .has-words .ensures) (c .if1 .taken) (headed .0))
 
 returns-2 : tie.Need-returns-2
-returns-2 c = tells-so (c .is-framed .ensures) (λ framed. (said-yes (c .before .before .has-words .ensures) (c .before .if1 .left), framed)) (λ headed. headed .1)
+returns-2 c =
+    let passed = c .before in
+    tells-so (c .is-framed .ensures) (λ framed. (said-yes (passed .before .has-words .ensures) (passed .if1 .left), framed)) (λ headed. headed .1)
 
 pub head-held-spec : {M : Type 1} → statement M
 head-held-spec =

@@ -5,6 +5,7 @@ use Prim.Native.Nat.{_<_, _+_, _-_, _≤_}
 use native.Mathlib.Omega.{arith}
 use borrow.Author.Needs.{needs}
 use lib.ListN.{getD}
+use Rattle.terms.specs.Terms.{most-squares}
 use Rattle.terms.proofs.Telling.{refuses, grants, between-more}
 use Rattle.sectors.specs.Sectors.{words-of}
 use Rattle.layouts.specs.Steps.{Told, All-told}
@@ -17,42 +18,68 @@ Inv-told file first entries m places i₀ i = (i ≤ m) × All-told true (words-
 abbrev μ-left : tie.MeasureT-loop
 μ-left file first entries m places i₀ i = m - i
 
+-- the entry that is read is a place of the table, which has not too many
+place-in : (read : tie.After-shared-slice-known3 Inv-told μ-left) →
+    let turn = read .before .before in
+    let given = turn .before .before .before .args in
+    (getD (given .entries .now) (turn .loop .i) 0 < given .places) × (given .places ≤ most-squares)
+place-in read =
+    let test = read .before in
+    let turn = test .before in
+    let start = turn .before .before .before in
+    (start .pre .4 (turn .loop .i) (test .loop-test .taken), start .pre .1)
+
 loop-holds : tie.Need-loop-holds Inv-told μ-left
 loop-holds c = (omega arith, λ i l. absurd (omega arith))
 
 cast-p-2 : tie.Need-cast-p-2 Inv-told μ-left
-cast-p-2 c = let below : getD (c .before .before .before .before .before .args .entries .now) (c .before .before .loop .i) 0 < c .before .before .before .before .before .args .places = c .before .before .before .before .before .pre .4 (c .before .before .loop .i) (c .before .loop-test .taken) in
-    let few = c .before .before .before .before .before .pre .1 in
-    record { fits = let z : getD (c .before .before .before .before .before .args .entries .now) (c .before .before .loop .i) 0 < 18446744073709551616 = omega arith in z }
+cast-p-2 c =
+    let place = place-in c in
+    record { fits = omega arith }
 
 add-word-at : tie.Need-add-word-at Inv-told μ-left
-add-word-at c = let below = c .before .before .before .before .before .pre .4 (c .before .before .loop .i) (c .before .loop-test .taken) in let few = c .before .before .before .before .before .pre .1 in record { fits = omega arith }
+add-word-at c =
+    let place = place-in c in
+    record { fits = omega arith }
 
 mul-word-at : tie.Need-mul-word-at Inv-told μ-left
-mul-word-at c = let below = c .before .before .before .before .before .pre .4 (c .before .before .loop .i) (c .before .loop-test .taken) in let few = c .before .before .before .before .before .pre .1 in record { fits = omega arith }
+mul-word-at c =
+    let place = place-in c in
+    record { fits = omega arith }
 
 add-word-at-2 : tie.Need-add-word-at-2 Inv-told μ-left
-add-word-at-2 c = let below = c .before .before .before .before .before .pre .4 (c .before .before .loop .i) (c .before .loop-test .taken) in let few = c .before .before .before .before .before .pre .1 in record { fits = omega arith }
+add-word-at-2 c =
+    let place = place-in c in
+    record { fits = omega arith }
 
 word-at-requires : tie.Need-word-at-requires Inv-told μ-left
-word-at-requires c κs = let below = c .before .before .before .before .before .pre .4 (c .before .before .loop .i) (c .before .loop-test .taken) in let room = c .before .before .before .before .before .pre .0 in omega arith
+word-at-requires c κs =
+    let room = c .before .before .before .before .before .pre .0 in
+    let place = place-in c in
+    omega arith
 
 returns : tie.Need-returns Inv-told μ-left
-returns c = let turn = c .before .before .before .before in
-    let told = c .before .before .before .loop-test .taken in
-    refuses (λ all. c .if1 .taken (c .before .word-at .ensures ∙ all (turn .loop .i) told))
+returns c =
+    let looked = c .before in
+    let test = looked .before .before in
+    let turn = test .before in
+    refuses (λ all. c .if1 .taken (looked .word-at .ensures ∙ all (turn .loop .i) (test .loop-test .taken)))
 
 loop-again : tie.Need-loop-again Inv-told μ-left
-loop-again c = let turn = c .before .before .before .before in
+loop-again c =
+    let looked = c .before in
+    let test = looked .before .before in
+    let turn = test .before in
     let given = turn .before .before .before .args in
-    let more = c .before .before .before .loop-test .taken in (
+    let more = test .loop-test .taken in (
       omega arith,
       λ j l. between-more (λ i. Told true (words-of (given .file .now)) (given .first + i) (getD (given .entries .now) i 0)) 0 (turn .loop .i)
-          (λ i z m. turn .loop .inv .1 i m) (sym (c .before .word-at .ensures) ∙ c .if1 .left) j (omega arith) l,
+          (λ i z m. turn .loop .inv .1 i m) (sym (looked .word-at .ensures) ∙ c .if1 .left) j (omega arith) l,
     )
 
 returns-2 : tie.Need-returns-2 Inv-told μ-left
-returns-2 c = let turn = c .before in
+returns-2 c =
+    let turn = c .before in
     let last = c .loop-test .left in
     grants (λ i l. turn .loop .inv .1 i (omega arith))
 

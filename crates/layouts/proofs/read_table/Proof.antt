@@ -13,7 +13,8 @@ use Rattle.layouts.proofs.read_table.Statement.{statement}
 use Rattle.layouts.proofs.read_table.Tie as tie
 
 abbrev Inv-copied : tie.InvT-loop
-Inv-copied file table₀ places blocks b₀ table b = (b ≤ blocks) × (blocks ≡ table-blocks places) × (length table ≡ length table₀)
+Inv-copied file table₀ places blocks b₀ table b =
+    (b ≤ blocks) × (blocks ≡ table-blocks places) × (length table ≡ length table₀)
     × ((p : ℕ) → p < 126 * b → p < places → getD table p 0 ≡ table-word (words-of file) p)
 
 abbrev μ-left : tie.MeasureT-loop
@@ -23,45 +24,55 @@ loop-holds : tie.Need-loop-holds Inv-copied μ-left
 loop-holds c = (omega arith, c .blocks-for .ensures, refl, λ p l. absurd (omega arith))
 
 sub-lesser : tie.Need-sub-lesser Inv-copied μ-left
-sub-lesser c = let is = c .before .loop .inv .1 in omega arith
+sub-lesser c =
+    let is-blocks = c .before .loop .inv .1 in
+    omega arith
 
 copy-words-requires : tie.Need-copy-words-requires Inv-copied μ-left
-copy-words-requires c κs = let start = c .before .before .before .before .before .before .before in
-    let turn = c .before .before .before in
-    let is = turn .loop .inv .1 in
+copy-words-requires c κs =
+    let counted = c .before in
+    let test = counted .before in
+    let turn = test .before in
+    let start = turn .before .before .before .before in
+    let is-blocks = turn .loop .inv .1 in
     let same = turn .loop .inv .2 in
-    let used = c .before .lesser .ensures in
-    let more = c .before .before .loop-test .taken in
+    let is-used = counted .lesser .ensures in
+    let more = test .loop-test .taken in
     let room = start .pre .0 in
     let size = start .pre .1 in
     (omega arith, omega arith)
 
 loop-again : tie.Need-loop-again Inv-copied μ-left
-loop-again c = let start = c .before .before .before .before .before .before .before .before .before .before in
+loop-again c =
+    let copied = c .before .before in
+    let counted = copied .before .before in
+    let test = counted .before in
+    let turn = test .before in
+    let start = turn .before .before .before .before in
     let given = start .args in
-    let turn = c .before .before .before .before .before .before in
-    let more = c .before .before .before .before .before .loop-test .taken in
-    let is = turn .loop .inv .1 in
+    let is-blocks = turn .loop .inv .1 in
     let same = turn .loop .inv .2 in
+    let more = test .loop-test .taken in
     let room = start .pre .0 in
-    let size = start .pre .1 in
     let all = words-length (given .file .now) in (
       omega arith,
-      is,
-      c .before .before .copy-words .kept .1 .1 .0 ∙ same,
-      copied-more (words-of (given .file .now)) (turn .loop .table) (given .places) (turn .loop .b) (c .before .before .before .before .lesser .result) (same ∙ size) (c .before .before .before .before .lesser .ensures)
-          (omega arith) (omega arith) (turn .loop .inv .3) (c .before .before .copy-words .ensures),
+      is-blocks,
+      copied .copy-words .kept .1 .1 .0 ∙ same,
+      copied-more (words-of (given .file .now)) (turn .loop .table) (given .places) (turn .loop .b) (counted .lesser .result) (same ∙ start .pre .1)
+          (counted .lesser .ensures) (omega arith) (omega arith) (turn .loop .inv .3) (copied .copy-words .ensures),
     )
 
 same-length : tie.Need-same-length Inv-copied μ-left
 same-length c = c .before .loop .inv .2
 
 returns : tie.Need-returns Inv-copied μ-left
-returns c = let turn = c .before in
-    let last = c .loop-test .left in
-    let is = turn .loop .inv .1 in
+returns c =
+    let turn = c .before in
     let start = turn .before .before .before .before in
-    copied-all (words-of (start .args .file .now)) (turn .loop .table) (start .args .places) (turn .loop .inv .2 ∙ start .pre .1)
+    let given = start .args in
+    let is-blocks = turn .loop .inv .1 in
+    let last = c .loop-test .left in
+    copied-all (words-of (given .file .now)) (turn .loop .table) (given .places) (turn .loop .inv .2 ∙ start .pre .1)
     (λ p l. turn .loop .inv .3 p (omega arith) l)
 
 pub read-table-spec : {M : Type 1} → statement M

@@ -12,7 +12,8 @@ use Rattle.layouts.proofs.write_blocks.Statement.{statement}
 use Rattle.layouts.proofs.write_blocks.Tie as tie
 
 abbrev Inv-written : tie.InvT-loop
-Inv-written file₀ table places blocks b₀ file b = (b ≤ blocks) × (blocks ≡ table-blocks places) × (length file ≡ length file₀) × (words-of file ≡ sets (words-of file₀) 128 (packed b table))
+Inv-written file₀ table places blocks b₀ file b =
+    (b ≤ blocks) × (blocks ≡ table-blocks places) × (length file ≡ length file₀) × (words-of file ≡ sets (words-of file₀) 128 (packed b table))
 
 abbrev μ-left : tie.MeasureT-loop
 μ-left file₀ table places blocks b₀ file b = blocks - b
@@ -22,40 +23,51 @@ unfolding packed
 loop-holds c = (omega arith, c .blocks-for .ensures, refl, refl)
 
 sub-lesser : tie.Need-sub-lesser Inv-written μ-left
-sub-lesser c = let is = c .before .loop .inv .1 in omega arith
+sub-lesser c =
+    let is-blocks = c .before .loop .inv .1 in
+    omega arith
 
 write-block-requires : tie.Need-write-block-requires Inv-written μ-left
-write-block-requires c κs = let start = c .before .before .before .before .before .before .before in
-    let turn = c .before .before .before in
-    let is = turn .loop .inv .1 in
+write-block-requires c κs =
+    let counted = c .before in
+    let test = counted .before in
+    let turn = test .before in
+    let start = turn .before .before .before .before in
+    let is-blocks = turn .loop .inv .1 in
     let same = turn .loop .inv .2 in
-    let used = c .before .lesser .ensures in
-    let more = c .before .before .loop-test .taken in
+    let is-used = counted .lesser .ensures in
+    let more = test .loop-test .taken in
     let size = start .pre .0 in
     let places = start .pre .1 in
     (omega arith, omega arith, omega arith)
 
 loop-again : tie.Need-loop-again Inv-written μ-left
-loop-again c = let start = c .before .before .before .before .before .before .before .before .before .before in
+loop-again c =
+    let written = c .before .before in
+    let counted = written .before .before in
+    let test = counted .before in
+    let turn = test .before in
+    let start = turn .before .before .before .before in
     let given = start .args in
-    let turn = c .before .before .before .before .before .before in
-    let more = c .before .before .before .before .before .loop-test .taken in (
+    let more = test .loop-test .taken in (
       omega arith,
       turn .loop .inv .1,
-      c .before .before .write-block .kept .0 ∙ turn .loop .inv .2,
-      block-more (words-of (given .file .now)) (given .table .now) (given .places) (turn .loop .b) (c .before .before .before .before .lesser .result) (start .pre .1) (c .before .before .before .before .lesser .ensures)
-          (turn .loop .inv .3) (c .before .before .write-block .ensures),
+      written .write-block .kept .0 ∙ turn .loop .inv .2,
+      block-more (words-of (given .file .now)) (given .table .now) (given .places) (turn .loop .b) (counted .lesser .result) (start .pre .1)
+          (counted .lesser .ensures) (turn .loop .inv .3) (written .write-block .ensures),
     )
 
 same-length : tie.Need-same-length Inv-written μ-left
 same-length c = c .before .loop .inv .2
 
 returns : tie.Need-returns Inv-written μ-left
-returns c = let turn = c .before in
-    let start = turn .before .before .before .before in
-    let given = start .args in
-    let all : turn .loop .b ≡ table-blocks (given .places) =
-    let most = turn .loop .inv .0 in let is = turn .loop .inv .1 in let last = c .loop-test .left in omega arith in
+returns c =
+    let turn = c .before in
+    let given = turn .before .before .before .before .args in
+    let most = turn .loop .inv .0 in
+    let is-blocks = turn .loop .inv .1 in
+    let last = c .loop-test .left in
+    let all : turn .loop .b ≡ table-blocks (given .places) = omega arith in
     turn .loop .inv .3 ∙ ap (λ (n : ℕ). sets (words-of (given .file .now)) 128 (packed n (given .table .now))) all
 
 pub write-blocks-spec : {M : Type 1} → statement M

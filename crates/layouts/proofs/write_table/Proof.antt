@@ -9,12 +9,17 @@ use Rattle.layouts.proofs.write_table.Statement.{statement}
 use Rattle.layouts.proofs.write_table.Tie as tie
 
 returns : tie.Need-returns
-returns c = let start = c .before .before .before .before .before .before .before .before .before .before .before in
+returns c =
+    let written = c .before .before in
+    let headed = written .before .before .before .before .before in
+    let start = headed .before .before .before .before in
     let given = start .args in
-    let kept = c .before .before .write-blocks .kept .0 ∙ c .before .before .before .before .before .before .before .write-head .kept .0 in
-    card-written (given .area .w) (given .area .h) (given .kind) (given .table .now) (c .before .before .write-blocks .last .0) (given .area .w * given .area .h)
-    (start .pre .2) (λ j l. c .slice-known3 .given j .fits) (kept ∙ start .pre .1) (words-of (given .file .now))
-    (words-length (given .file .now) ∙ ap (λ (n : ℕ). n / 4) (sym kept)) (c .before .before .before .before .before .before .before .write-head .ensures) (c .before .before .write-blocks .ensures)
+    let w = given .area .w in
+    let h = given .area .h in
+    let same = written .write-blocks .kept .0 ∙ headed .write-head .kept .0 in
+    card-written w h (given .kind) (given .table .now) (written .write-blocks .last .0) (w * h) (start .pre .2) (λ j l. c .slice-known3 .given j .fits)
+    (same ∙ start .pre .1) (words-of (given .file .now)) (words-length (given .file .now) ∙ ap (λ (n : ℕ). n / 4) (sym same))
+    (headed .write-head .ensures) (written .write-blocks .ensures)
 
 pub write-table-spec : {M : Type 1} → statement M
 write-table-spec =
