@@ -170,7 +170,9 @@ module _ (w h kind : ℕ) (file : List ℕ) where
 
     by-head : ((j : ℕ) → j < 126 → in-head j ≡ true) ⊎ ((j : ℕ) × ((j < 126) × (in-head j ≡ false))) → Verdict
     by-head (inl all) = by-counts all (all-or-one n counts)
-    by-head (inr one) = let found = not-before (one .0) 4 (word file (one .0)) (one .1 .1) in inr (used-in-head (one .0) (found .0) (one .1 .0) (found .1))
+    by-head (inr one) =
+        let found = not-before (one .0) 4 (word file (one .0)) (one .1 .1) in
+        inr (used-in-head (one .0) (found .0) (one .1 .0) (found .1))
 
   so : (x y : ℕ) → ((x ≡ y → ⊥) → Departs w h kind file) → (x ≡ y → Verdict) → Verdict
   so x y departs goes-on = by (eqb x y) refl

@@ -131,7 +131,8 @@ module _ (file : List ℕ) where
     λ e. let other = eqb-false (first-bad-in file) n e in
         let most = not-beyond n (words-of file) in
         (first-bad-in file, first-bad-is (first-bad-in file) .0 (refl, omega arith)),
-    λ p. let is = first-bad-is (p .0) .1 (p .1) in ne-eqb (first-bad-in file) n (λ e. let l = is .1 in let z = is .0 in omega arith),
+    λ p. let is = first-bad-is (p .0) .1 (p .1) in
+        ne-eqb (first-bad-in file) n (λ e. let l = is .1 in let z = is .0 in omega arith),
   )
 
   abbrev pub check-mean : Meaning (eqb (first-bad-in file) (whole-blocks file))

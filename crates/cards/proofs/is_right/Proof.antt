@@ -10,16 +10,26 @@ use Rattle.cards.proofs.is_right.Statement.{statement}
 use Rattle.cards.proofs.is_right.Tie as tie
 
 returns : tie.Need-returns
-returns c = let start = c .before .before .before .before in
+returns c =
+    let checked = c .before in
+    let branch = checked .before in
+    let start = branch .before .before in
     let given = start .args in
-    subst⁻¹ (λ (by : Bool). Tells (c .says-right .result) (given .table .now ≡ due-by by (given .area .w) (given .area .h))) (eq-eqb (given .kind) 2 (c .before .before .if1 .taken))
-    (check-tells (given .area) true (given .table .now) (start .pre .0) (start .pre .1) (c .before .check-by-square .result) (c .before .check-by-square .ensures) (c .says-right .ensures))
+    let table = given .table .now in
+    subst⁻¹ (λ (by : Bool). Tells (c .says-right .result) (table ≡ due-by by (given .area .w) (given .area .h))) (eq-eqb (given .kind) 2 (branch .if1 .taken))
+    (check-tells (given .area) true table (start .pre .0) (start .pre .1) (checked .check-by-square .result) (checked .check-by-square .ensures)
+    (c .says-right .ensures))
 
 returns-2 : tie.Need-returns-2
-returns-2 c = let start = c .before .before .before .before in
+returns-2 c =
+    let checked = c .before in
+    let branch = checked .before in
+    let start = branch .before .before in
     let given = start .args in
-    subst⁻¹ (λ (by : Bool). Tells (c .says-right2 .result) (given .table .now ≡ due-by by (given .area .w) (given .area .h))) (ne-eqb (given .kind) 2 (c .before .before .if1 .left))
-    (check-tells (given .area) false (given .table .now) (start .pre .0) (start .pre .1) (c .before .check-by-number .result) (c .before .check-by-number .ensures) (c .says-right2 .ensures))
+    let table = given .table .now in
+    subst⁻¹ (λ (by : Bool). Tells (c .says-right2 .result) (table ≡ due-by by (given .area .w) (given .area .h))) (ne-eqb (given .kind) 2 (branch .if1 .left))
+    (check-tells (given .area) false table (start .pre .0) (start .pre .1) (checked .check-by-number .result) (checked .check-by-number .ensures)
+    (c .says-right2 .ensures))
 
 pub is-right-spec : {M : Type 1} → statement M
 is-right-spec =

@@ -7,19 +7,28 @@ use Rattle.cards.proofs.write_card.Statement.{statement}
 use Rattle.cards.proofs.write_card.Tie as tie
 
 write-fitting-requires : tie.Need-write-fitting-requires
-write-fitting-requires c κs = let start = c .before .before .before .before .before .before in
-    table-granted (start .args .area .w) (start .args .area .h) _ (sym (c .before .before .before .admit .ensures) ∙ c .before .enum-told .given .1)
+write-fitting-requires c κs =
+    let told = c .before in
+    let tried = told .before .before in
+    let area = tried .before .before .before .args .area in
+    table-granted (area .w) (area .h) _ (sym (tried .admit .ensures) ∙ told .enum-told .given .1)
 
 returns : tie.Need-returns
-returns c = let start = c .before .before .before .before .before .before in
-    let given = start .args in
-    write-refused (given .area .w) (given .area .h) (given .kind) (given .table .now) (given .file .now) (c .before .r .given .0 .0) (sym (c .before .before .before .admit .ensures) ∙ c .before .r .given .1)
+returns c =
+    let refused = c .before in
+    let tried = refused .before .before in
+    let given = tried .before .before .before .args in
+    write-refused (given .area .w) (given .area .h) (given .kind) (given .table .now) (given .file .now) (refused .r .given .0 .0)
+    (sym (tried .admit .ensures) ∙ refused .r .given .1)
 
 returns-2 : tie.Need-returns-2
-returns-2 c = let start = c .before .before .before .before .before .before .before .before .before in
-    let given = start .args in
-    write-granted (given .area .w) (given .area .h) (given .kind) (given .table .now) (given .file .now) (sym (c .before .before .before .before .before .before .admit .ensures) ∙ c .before .before .before .before .enum-told .given .1)
-    (c .before .before .write-fitting .ensures)
+returns-2 c =
+    let done = c .before .before in
+    let told = done .before .before in
+    let tried = told .before .before in
+    let given = tried .before .before .before .args in
+    write-granted (given .area .w) (given .area .h) (given .kind) (given .table .now) (given .file .now)
+    (sym (tried .admit .ensures) ∙ told .enum-told .given .1) (done .write-fitting .ensures)
 
 pub write-card-spec : {M : Type 1} → statement M
 write-card-spec =
