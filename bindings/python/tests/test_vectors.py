@@ -3,9 +3,10 @@
 import array
 import pathlib
 import re
+import struct
 import unittest
 
-from uvalinda import Area, AreaReply, Cell, Clerk, Number, OriginReply, Refusal
+from uvalinda import Area, AreaReply, BadCheck, Cell, Clerk, Number, OriginReply, Refusal
 from uvalinda.clerk import field_number
 
 VECTORS = pathlib.Path(__file__).parents[3] / "tests/vectors.txt"
@@ -43,6 +44,32 @@ def checked(call, w, h, *table):
     return "right" if check else f"wrong {check.place} {check.due}"
 
 
+def file_bytes(word):
+    """The bytes of a file that a word of it stands for."""
+    if word.startswith("0*"):
+        return bytes(4 * int(word[2:]))
+    return bytes.fromhex(word[1:]) if word.startswith("x") else struct.pack("<I", int(word))
+
+
+def file_words(file):
+    """A file of whole words as the vectors have it."""
+    words = joined(word for (word,) in struct.iter_unpack("<I", file))
+    return re.sub(r"\b0( 0)+\b", lambda zeros: f"0*{len(zeros[0].split())}", words)
+
+
+# What is lent to be written, here and below, holds no word that is due, so that each has to be written.
+def written(w, h, kind, length, *table):
+    file = bytearray(b"\7" * length)
+    Area(w, h).write_card(kind, array.array("I", table), file)
+    return file_words(file)
+
+
+def read(w, h, kind, places, *file):
+    table = array.array("I", [2**32 - 1]) * int(places)
+    Area(int(w), int(h)).read_card(int(kind), b"".join(map(file_bytes, file)), table)
+    return joined(table)
+
+
 def replied(clerk, line):
     match clerk.handle(line):
         case AreaReply(_, squares, finish):
@@ -56,9 +83,11 @@ def replied(clerk, line):
 
 
 def refused(answer, *arguments):
-    """What is answered, or the refusal's number."""
+    """What is answered, or the refusal's number and what it tells besides."""
     try:
         return answer(*arguments)
+    except BadCheck as refusal:
+        return f"refused {refusal.number} {refusal.block}"
     except Refusal as refusal:
         return f"refused {refusal.number}"
 
@@ -80,6 +109,12 @@ def answered(kind, *words):
             return refused(filled, kind, *map(int, words))
         case "check":
             return refused(checked, kind, *map(int, words))
+        case "card":
+            return refused(lambda w, h: str(Area(w, h).card_length()), *map(int, words))
+        case "write":
+            return refused(written, *map(int, words))
+        case "read":
+            return refused(read, *words)
         case "handle":
             return handled(*words)
         case _:
