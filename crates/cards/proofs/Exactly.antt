@@ -47,10 +47,12 @@ module _ (area : Area) (kind : ℕ) where
   -- the writer
   module _ (table file : List ℕ) where
     pub written-exactly : (write-figures Write.Written ≡ write-at area kind table file)
-        ↔ (Fits (area .w) (area .h) (length table) × ((length file ≡ card-bytes (area .w) (area .h)) × (Kind kind × (table ≡ right-table (area .w) (area .h) kind))))
-    written-exactly =
-        (λ e. write-answered w h kind table file .0 (sym (ap (λ (f : Figures). f .refusal) e)),
-         λ p. sym (written-whole w h kind table file (write-answered w h kind table file .1 p)))
+        ↔ (Fits (area .w) (area .h) (length table)
+        × ((length file ≡ card-bytes (area .w) (area .h)) × (Kind kind × (table ≡ right-table (area .w) (area .h) kind))))
+    written-exactly = (
+      λ e. write-answered w h kind table file .0 (sym (ap (λ (f : Figures). f .refusal) e)),
+      λ p. sym (written-whole w h kind table file (write-answered w h kind table file .1 p)),
+    )
 
     pub unwritten-exactly : (r : Refusal)
         → (write-figures (Write.Refused r) ≡ write-at area kind table file) ↔ (write (area .w) (area .h) kind table file .refusal ≡ refusal-number r)
@@ -67,29 +69,33 @@ module _ (area : Area) (kind : ℕ) where
   module _ (file table : List ℕ) where
     pub read-exactly : (read-figures Read.Read ≡ read-at area kind file table)
         ↔ (Fits (area .w) (area .h) (length table) × (Kind kind × (file ≡ card (area .w) (area .h) kind)))
-    read-exactly =
-        (λ e. read-answered w h kind file table .0 (sym (ap (λ (f : Figures). f .refusal) e)),
-         λ p. sym (read-whole w h kind file table (read-answered w h kind file table .1 p)))
+    read-exactly = (
+      λ e. read-answered w h kind file table .0 (sym (ap (λ (f : Figures). f .refusal) e)),
+      λ p. sym (read-whole w h kind file table (read-answered w h kind file table .1 p)),
+    )
 
     pub bad-exactly : (block : ℕ) → (read-figures (Read.Refused BadCheck block) ≡ read-at area kind file table)
         ↔ (Fits (area .w) (area .h) (length table) × First-bad file block)
-    bad-exactly block =
-        (λ e. let asked = read-refused-14 w h kind file table .0 (sym (ap (λ (f : Figures). f .refusal) e)) in
-         let told = block-told w h kind file table (sym (ap (λ (f : Figures). f .refusal) e)) (asked .1 .0) (asked .1 .1) in
-         (asked .0, subst⁻¹ (First-bad file) (ap (figure 0) (e ∙ told)) (asked .1 .1)),
-         λ p. sym (block-told w h kind file table (read-refused-14 w h kind file table .1 (p .0, (block, p .1))) block (p .1)))
+    bad-exactly block = (
+      λ e. let asked = read-refused-14 w h kind file table .0 (sym (ap (λ (f : Figures). f .refusal) e)) in
+          let told = block-told w h kind file table (sym (ap (λ (f : Figures). f .refusal) e)) (asked .1 .0) (asked .1 .1) in
+          (asked .0, subst⁻¹ (First-bad file) (ap (figure 0) (e ∙ told)) (asked .1 .1)),
+      λ p. sym (block-told w h kind file table (read-refused-14 w h kind file table .1 (p .0, (block, p .1))) block (p .1)),
+    )
 
     pub unread-exactly : (r : Refusal) (block : ℕ) → (r ≡ BadCheck → ⊥) → (read-figures (Read.Refused r block) ≡ read-at area kind file table)
         ↔ ((read (area .w) (area .h) kind file table .refusal ≡ refusal-number r) × (block ≡ 0))
-    unread-exactly r block other =
-        (λ e. let told = no-block-told w h kind file table r other (sym (ap (λ (f : Figures). f .refusal) e)) in
-         (sym (ap (λ (f : Figures). f .refusal) e), ap (figure 0) (e ∙ told)),
-         λ p. ap (λ (b : ℕ). refused-with r (b ∷ [])) (p .1) ∙ sym (no-block-told w h kind file table r other (p .0)))
+    unread-exactly r block other = (
+      λ e. let told = no-block-told w h kind file table r other (sym (ap (λ (f : Figures). f .refusal) e)) in
+          (sym (ap (λ (f : Figures). f .refusal) e), ap (figure 0) (e ∙ told)),
+      λ p. ap (λ (b : ℕ). refused-with r (b ∷ [])) (p .1) ∙ sym (no-block-told w h kind file table r other (p .0)),
+    )
 
     pub read-leaves : read-figures Read.Read ≡ read-at area kind file table → table-after-at area kind file table ≡ right-table (area .w) (area .h) kind
     read-leaves e = answered-left (read w h kind file table) (right-table w h kind) table (sym (ap (λ (f : Figures). f .refusal) e))
 
-    pub unread-leaves : (r : Refusal) (block : ℕ) → read-figures (Read.Refused r block) ≡ read-at area kind file table → table-after-at area kind file table ≡ table
+    pub unread-leaves : (r : Refusal) (block : ℕ) → read-figures (Read.Refused r block) ≡ read-at area kind file table
+        → table-after-at area kind file table ≡ table
     unread-leaves r block e =
         refused-left (read w h kind file table) (right-table w h kind) table (λ z. refusal-some r (ap (λ (f : Figures). f .refusal) e ∙ z))
 
@@ -102,12 +108,14 @@ module _ (area : Area) where
       let w = area .w in
       let h = area .h in
       let whole : measure w h .refusal ≡ 0 → measure w h ≡ answered (card-bytes w h ∷ []) =
-          λ e. answered-so (area-guards w h) 1 (card-bytes w h ∷ []) (answered-exactly (area-guards w h) 1 (card-bytes w h ∷ []) .0 e) in
-      (λ e. let zero = sym (ap (λ (f : Figures). f .refusal) e) in (measure-answered w h .0 zero, ap (figure 0) (e ∙ whole zero)),
-       λ p. ap (λ (n : ℕ). answered (n ∷ [])) (p .1) ∙ sym (whole (measure-answered w h .1 (p .0))))
+      λ e. answered-so (area-guards w h) 1 (card-bytes w h ∷ []) (answered-exactly (area-guards w h) 1 (card-bytes w h ∷ []) .0 e) in (
+        λ e. let zero = sym (ap (λ (f : Figures). f .refusal) e) in (measure-answered w h .0 zero, ap (figure 0) (e ∙ whole zero)),
+        λ p. ap (λ (n : ℕ). answered (n ∷ [])) (p .1) ∙ sym (whole (measure-answered w h .1 (p .0))),
+      )
 
   pub no-length-exactly : (r : Refusal)
       → (length-figures (Length.Refused r) ≡ measure-at area) ↔ (measure (area .w) (area .h) .refusal ≡ refusal-number r)
   unfolding measure
   no-length-exactly r =
-      (λ e. sym (ap (λ (f : Figures). f .refusal) e), λ e. sym (refused-whole (area-guards (area .w) (area .h)) 1 (card-bytes (area .w) (area .h) ∷ []) refl r e))
+      let bytes = card-bytes (area .w) (area .h) ∷ [] in
+      (λ e. sym (ap (λ (f : Figures). f .refusal) e), λ e. sym (refused-whole (area-guards (area .w) (area .h)) 1 bytes refl r e))

@@ -14,7 +14,7 @@ ghost use Rattle.layouts.specs.Layouts.{head, table-blocks, card-of, car
 ghost use Rattle.layouts.specs.Steps.{Room, in-use, All-told, Right-told, Part-told, Below, Frames, Headed, table-in};
 
 // How many entries are computed at a time to judge a card: 8 blocks of them, 4,032 bytes of stack.
-const AT_A_TIME: u32 = 1008;
+const AT_A_TIME: usize = 1008;
 
 // The lesser of two numbers.
 fn lesser(x: u32, y: u32) -> u32
@@ -98,11 +98,11 @@ fn table_held(file: &[u8], area: Area, by_square: bool) -> bool
     requires { ⌜ Limits (area .w) (area .h) × Room (now file) (area .w * area .h) ⌝ }
     ensures { λ r. ⌜ Tells r (Right-told «by_square» (words-of (now (file .entry))) (area .w) (area .h) (area .w * area .h)) ⌝ }
 {
-    let mut buffer = [0u32; 1008];
+    let mut buffer: [u32; AT_A_TIME] = [0; AT_A_TIME];
     let places = area.w * area.h;
     let mut at: u32 = 0;
     while at < places {
-        let m = lesser(AT_A_TIME, places - at);
+        let m = lesser(AT_A_TIME as u32, places - at);
         if !stretch_held(file, area, at, m, &mut buffer, by_square) {
             return false;
         }

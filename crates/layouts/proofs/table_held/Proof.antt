@@ -116,6 +116,7 @@ table-held-spec =
     mul-places
     loop-holds
     (λ c. search needs)
+    (λ c. search needs)
     (λ c κs. search needs)
     slice-aggregate-stretch-held
     stretch-held-requires
