@@ -98,7 +98,8 @@ fn table_held(file: &[u8], area: Area, by_square: bool) -> bool
     requires { ⌜ Limits (area .w) (area .h) × Room (now file) (area .w * area .h) ⌝ }
     ensures { λ r. ⌜ Tells r (Right-told «by_square» (words-of (now (file .entry))) (area .w) (area .h) (area .w * area .h)) ⌝ }
 {
-    let mut buffer: [u32; AT_A_TIME] = [0; AT_A_TIME];
+    // Not 0: a field of zeros is a call of `memset`, and the library calls nothing.
+    let mut buffer: [u32; AT_A_TIME] = [1; AT_A_TIME];
     let places = area.w * area.h;
     let mut at: u32 = 0;
     while at < places {

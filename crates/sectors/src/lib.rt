@@ -115,13 +115,16 @@ fn put_words(bytes: &mut [u8], at: usize, words: &[u32], from: usize, n: usize)
     }
 }
 
-// The n words from `at` on become zero.
+// The n words from `at` on become zero. Those that are zero are not written: a loop that writes zeros alone is a call of `memset`, and the library calls
+// nothing.
 fn put_zeros(bytes: &mut [u8], at: usize, n: usize)
     requires { ⌜ 4 * (at + n) ≤ length (now bytes) ⌝ }
     ensures { λ r. ⌜ words-of (now (bytes .exit)) ≡ sets (words-of (now (bytes .entry))) at (replicate n 0) ⌝ }
 {
     for i in 0..n {
-        put_word(bytes, at + i, 0);
+        if word_at(bytes, at + i) != 0 {
+            put_word(bytes, at + i, 0);
+        }
     }
 }
 
