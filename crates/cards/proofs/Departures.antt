@@ -1,24 +1,24 @@
 -- What a card says, sentence by sentence, and what a departure is: a file of bytes is the card exactly if each of its words says so, and it departs exactly if
 -- one of them does not.
 use mathlib.Core.Bool.{Bool, true, false, _||_}
-use mathlib.Core.List.{List, []}
+use mathlib.Core.List.{List}
 use mathlib.Core.Logic.{_↔_, _⊎_, inl, inr}
 use mathlib.Core.Path.{_≡_, refl, sym, ap, ap₂, subst, subst⁻¹, _∙_}
 use Prim.Native.Nat.{ℕ, zero, suc, _+_, _-_, _*_, _/_, _%_, _≤_, _<_, min}
 use native.Mathlib.Omega.{arith}
-use borrow.Author.Tests.{eqb-true, eqb-false, eq-eqb, ltb-true, ltb-false}
+use borrow.Author.Tests.{eqb-true, eqb-false, ltb-true, ltb-false}
 use lib.Dec.{eqb, ltb}
 use lib.ListN.{length, getD}
 use Rattle.terms.specs.Terms.{accepted}
 use Rattle.terms.proofs.Limits.{limits, both-accepted}
 use Rattle.terms.proofs.Meanings.{lengths-exactly, squares-exactly}
-use Rattle.sectors.specs.Sectors.{words-of, whole-blocks, first-bad-in}
+use Rattle.sectors.specs.Sectors.{words-of, whole-blocks}
 use Rattle.sectors.specs.Steps.{Has, Framed}
 use Rattle.sectors.proofs.Words.{Bytes, words-length, same-bytes}
 use Rattle.sectors.proofs.Checks.{good-at, found}
 use Rattle.tables.proofs.PlaceByPlace.{due-length}
 use Rattle.layouts.specs.Layouts.{head, table-blocks, card-words, card-of, right-table, card}
-use Rattle.layouts.specs.Steps.{table-word, in-use, Frames, Headed}
+use Rattle.layouts.specs.Steps.{Frames}
 use Rattle.layouts.proofs.Accepting.{card-words-length, card-length, card-in-words, card-headed, card-framed, card-holds, are-card-words}
 use Rattle.cards.specs.Cards.{read}
 use Rattle.cards.proofs.Refused.{Kind, No-kind, Fits, Checks-right, none-bad, read-refused-15}

@@ -1,8 +1,9 @@
--- Each answer of the three calls, of an area with its origin, exactly, in numbers: which answer is given when, and what is left of the file and the table then.
+-- Each answer of the three calls, of an area with its origin, exactly: which answer is given when, a refusal by the number that `Refused` has in numbers, and
+-- what is left of the file and the table then.
 use mathlib.Core.List.{List, [], _∷_}
 use mathlib.Core.Logic.{_↔_}
 use mathlib.Core.Path.{_≡_, refl, sym, ap, subst⁻¹, _∙_}
-use Prim.Native.Nat.{ℕ, _+_, _*_, _/_, _<_}
+use Prim.Native.Nat.{ℕ, _+_, _*_, _/_}
 use lib.ListN.{length}
 use Rattle.terms.specs.declared.Area.{Area}
 use Rattle.terms.specs.declared.Refusal.{Refusal}
@@ -19,7 +20,7 @@ use Rattle.cards.specs.declared.WriteAnswer.the-variants as Write
 use Rattle.cards.specs.declared.ReadAnswer.the-variants as Read
 use Rattle.cards.specs.Cards.{write-guards, read-guards, write, read, measure, length-figures, write-figures, read-figures}
 use Rattle.cards.specs.Cards.{write-at, file-after-at, read-at, table-after-at, measure-at}
-use Rattle.cards.proofs.Refused.{Kind, Fits, First-bad, write-answered, read-answered, read-refused-14, block-told, no-block-told, measure-answered}
+use Rattle.cards.proofs.Refused.{Kind, Fits, First-bad, write-answered, read-answered, read-refused-14, block-told, no-block-told, measure-answered, measured}
 
 -- figures with 0 are those of an answered call
 module _ (w h kind : ℕ) (table file : List ℕ) where
@@ -103,14 +104,11 @@ module _ (area : Area) (kind : ℕ) where
 module _ (area : Area) where
   pub length-exactly : (bytes : ℕ) → (length-figures (Length.Bytes bytes) ≡ measure-at area)
       ↔ ((Lengths-within (area .w) (area .h) × Squares-within (area .w) (area .h)) × (bytes ≡ 512 * (1 + (area .w * area .h + 125) / 126)))
-  unfolding measure
   length-exactly bytes =
       let w = area .w in
-      let h = area .h in
-      let whole : measure w h .refusal ≡ 0 → measure w h ≡ answered (card-bytes w h ∷ []) =
-      λ e. answered-so (area-guards w h) 1 (card-bytes w h ∷ []) (answered-exactly (area-guards w h) 1 (card-bytes w h ∷ []) .0 e) in (
-        λ e. let zero = sym (ap (λ (f : Figures). f .refusal) e) in (measure-answered w h .0 zero, ap (figure 0) (e ∙ whole zero)),
-        λ p. ap (λ (n : ℕ). answered (n ∷ [])) (p .1) ∙ sym (whole (measure-answered w h .1 (p .0))),
+      let h = area .h in (
+        λ e. let asked = measure-answered w h .0 (sym (ap (λ (f : Figures). f .refusal) e)) in (asked, ap (figure 0) (e ∙ measured w h (asked .0) (asked .1))),
+        λ p. ap (λ (n : ℕ). answered (n ∷ [])) (p .1) ∙ sym (measured w h (p .0 .0) (p .0 .1)),
       )
 
   pub no-length-exactly : (r : Refusal)

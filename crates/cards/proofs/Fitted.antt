@@ -3,28 +3,27 @@
 use mathlib.Core.Bool.{Bool, true, false, not, true≢false}
 use mathlib.Core.List.{List, [], _∷_}
 use mathlib.Core.Path.{_≡_, refl, sym, ap, _∙_}
-use Prim.Native.Nat.{ℕ, _+_, _*_, _≤_, _<_}
+use Prim.Native.Nat.{ℕ, _+_, _*_}
 use native.Mathlib.Omega.{arith}
-use borrow.Author.Tests.{eq-eqb, ne-eqb, not-true, not-false}
+use borrow.Author.Tests.{eq-eqb, ne-eqb}
 use lib.Dec.{eqb, lit<}
-use lib.ListN.{length, getD}
+use lib.ListN.{length}
 use lib.Seq.{ext-getD}
 use Rattle.terms.specs.declared.Area.{Area}
 use Rattle.terms.specs.declared.Refusal.{Refusal}
 use Rattle.terms.specs.declared.Refusal.the-variants.{TableLength, BadCheck, Departure}
 use Rattle.terms.specs.declared.Admission.the-variants.{Granted, Refused}
 use Rattle.terms.specs.Terms.{accepted, Figures, answered, refused, refused-with}
-use Rattle.terms.specs.Guards.{admitted, first, area-guards}
+use Rattle.terms.specs.Guards.{admitted, first}
 use Rattle.terms.specs.Comparing.{same-numbers}
 use Rattle.terms.specs.Telling.{Tells}
 use Rattle.terms.proofs.Limits.{limits, both-accepted}
-use Rattle.terms.proofs.Refusals.{refusal-some}
-use Rattle.terms.proofs.Guards.{passed, refused-first, granted-first, untried}
+use Rattle.terms.proofs.Guards.{refused-first, granted-first, untried}
 use Rattle.terms.proofs.Telling.{tells-same, tells-one}
 use Rattle.sectors.specs.Sectors.{words-of, whole-blocks, first-bad-in}
 use Rattle.tables.specs.declared.CheckAnswer as CheckAnswers
 use Rattle.tables.specs.Tables.{some-deep, table-guards, unless-refused, due-by, check-at, check-figures}
-use Rattle.tables.proofs.Admitted.{not-deep, table-granted, kept, given}
+use Rattle.tables.proofs.Admitted.{not-deep, kept, given}
 use Rattle.tables.proofs.PlaceByPlace.{places-length, place-holds, due-length}
 use Rattle.tables.proofs.Promises.{right-fields, filled-then-right, check-one}
 use Rattle.layouts.specs.Layouts.{table-blocks, right-table, card-words, card, card-bytes}

@@ -1,28 +1,26 @@
 -- What follows from the promises of writing and reading: the round trip in either sense, what is left at a refusal, one changed byte, origins that make no
 -- difference, one answer, the fields of answers, and wrong programs that are turned away.
-use mathlib.Core.Bool.{Bool, true, false, cond}
-use mathlib.Core.List.{List, [], _∷_, _++_}
-use mathlib.Core.Logic.{_⊎_, inl, inr}
-use mathlib.Core.Path.{_≡_, refl, sym, ap, ap₂, subst, subst⁻¹, _∙_}
-use Prim.Native.Nat.{ℕ, zero, suc, _+_, _-_, _*_, _/_, _%_, _≤_, _<_}
+use mathlib.Core.Bool.{true, false, cond}
+use mathlib.Core.List.{List, [], _∷_}
+use mathlib.Core.Logic.{inl, inr}
+use mathlib.Core.Path.{_≡_, refl, sym, ap, ap₂, _∙_}
+use Prim.Native.Nat.{ℕ, _+_, _*_, _/_, _%_, _<_}
 use native.Mathlib.Omega.{arith}
-use borrow.Author.Tests.{ltb-true, ltb-false, eq-eqb, ne-eqb}
-use lib.Dec.{eqb, ltb, lit<, lit≤}
+use lib.Dec.{eqb}
 use lib.ListN.{length, getD, set, replicate, length-set, length-replicate}
 use Rattle.terms.specs.declared.Area.{Area}
 use Rattle.terms.specs.declared.Refusal.{Refusal}
 use Rattle.terms.specs.declared.Refusal.the-variants.{BadCheck}
-use Rattle.terms.specs.Terms.{accepted, past-32-bits, refusal-number, Figures, answered, refused, refused-with}
-use Rattle.terms.proofs.Limits.{limits, both-accepted, area-passed}
-use Rattle.terms.proofs.Refusals.{named, named-back, refusal-not-0, refusal-some, refusal-one, figure}
-use Rattle.terms.specs.Guards.{area-guards}
-use Rattle.terms.proofs.Guards.{_and_, answered-so}
+use Rattle.terms.specs.Terms.{accepted, past-32-bits, Figures, answered, refused, refused-with}
+use Rattle.terms.proofs.Limits.{limits, both-accepted}
+use Rattle.terms.proofs.Refusals.{named, named-back, refusal-not-0, figure}
+use Rattle.terms.proofs.Guards.{_and_}
 use Rattle.terms.proofs.OneAnswer.{one-equation, by-figures}
-use Rattle.terms.proofs.Meanings.{Lengths-within, Squares-within, lengths-exactly, squares-exactly}
-use Rattle.sectors.specs.Sectors.{words-of, bytes-of, whole-blocks, first-bad-in}
+use Rattle.terms.proofs.Meanings.{lengths-exactly, squares-exactly}
+use Rattle.sectors.specs.Sectors.{first-bad-in}
 use Rattle.sectors.proofs.Words.{Bytes, word-is}
 use Rattle.sectors.proofs.Changed.{one-byte}
-use Rattle.tables.specs.Tables.{by-number, by-square, unless-refused}
+use Rattle.tables.specs.Tables.{by-number, by-square}
 use Rattle.tables.proofs.Admitted.{answered-left, refused-left}
 use Rattle.tables.proofs.PlaceByPlace.{due-length}
 use Rattle.layouts.specs.Layouts.{table-blocks, right-table, card, card-bytes}
@@ -33,8 +31,8 @@ use Rattle.cards.specs.declared.WriteAnswer as WriteAnswers
 use Rattle.cards.specs.declared.ReadAnswer as ReadAnswers
 use Rattle.cards.specs.Cards.{write, read, measure, file-after, table-after, length-figures, write-figures, read-figures}
 use Rattle.cards.specs.Cards.{write-at, file-after-at, read-at, table-after-at, measure-at}
-use Rattle.cards.proofs.Refused.{Kind, No-kind, Fits, First-bad, first-bad-is, write-answered, read-answered, read-refused-14, block-told}
-use Rattle.cards.proofs.Refused.{no-block-told, measure-answered}
+use Rattle.cards.proofs.Refused.{Kind, Fits, First-bad, first-bad-is, write-answered, read-answered, read-refused-14, block-told}
+use Rattle.cards.proofs.Refused.{measure-answered, measured}
 use Rattle.cards.proofs.Departures.{word, card-says}
 
 -- "A refusal writes nothing."
@@ -166,31 +164,13 @@ pub read-one : (r s : ReadAnswers.ReadAnswer) {f : Figures} {x y left : List ℕ
     → (r ≡ s) × (x ≡ y)
 read-one r s p q = (by-figures read-figures read-from read-told r s (p .0) (q .0), one-equation (p .1) (q .1))
 
-measured : (w h : ℕ) → accepted w h ≡ true → measure w h ≡ answered (card-bytes w h ∷ [])
-unfolding measure
-measured w h ok = let tests = area-passed w h ok in answered-so (area-guards w h) 1 (card-bytes w h ∷ []) (tests .0 and tests .1)
-
--- The fields of an answer are what their names say: of a length the bytes of the area's card, of either kind; of a refused reading the refusal and its block.
+-- The bytes that are told are those of the area's card, of either kind.
 pub bytes-fields : (area : Area) (n : ℕ) → length-figures (LengthAnswers.the-variants.Bytes n) ≡ measure-at area → (kind : ℕ)
     → n ≡ length (card (area .w) (area .h) kind)
 bytes-fields area n e kind =
     let asked = measure-answered (area .w) (area .h) .0 (ap (λ (f : Figures). f .refusal) (sym e)) in
     let ok = both-accepted (area .w) (area .h) (lengths-exactly (area .w) (area .h) .1 (asked .0)) (squares-exactly (area .w) (area .h) .1 (asked .1)) in
-    ap (figure 0) (e ∙ measured (area .w) (area .h) ok) ∙ sym (card-has (area .w) (area .h) ok kind)
-
-pub block-fields : (area : Area) (kind : ℕ) (file table : List ℕ) (block : ℕ)
-    → read-figures (ReadAnswers.the-variants.Refused BadCheck block) ≡ read-at area kind file table → First-bad file block
-block-fields area kind file table block e =
-    let w = area .w in
-    let h = area .h in
-    let asked = read-refused-14 w h kind file table .0 (ap (λ (f : Figures). f .refusal) (sym e)) in
-    let told = block-told w h kind file table (ap (λ (f : Figures). f .refusal) (sym e)) (asked .1 .0) (asked .1 .1) in
-    subst⁻¹ (First-bad file) (ap (figure 0) (e ∙ told)) (asked .1 .1)
-
-pub no-block-fields : (area : Area) (kind : ℕ) (file table : List ℕ) (r : Refusal) (block : ℕ) → (r ≡ BadCheck → ⊥)
-    → read-figures (ReadAnswers.the-variants.Refused r block) ≡ read-at area kind file table → block ≡ 0
-no-block-fields area kind file table r block other e =
-    ap (figure 0) (e ∙ no-block-told (area .w) (area .h) kind file table r other (ap (λ (f : Figures). f .refusal) (sym e)))
+    ap (figure 0) (e ∙ measured (area .w) (area .h) (asked .0) (asked .1)) ∙ sym (card-has (area .w) (area .h) ok kind)
 
 -- The wrong programs that the promises turn away. Areas of 1 by 1 and 127 by 1 are accepted, and their cards have two blocks and three.
 one-square : accepted 1 1 ≡ true
@@ -207,12 +187,12 @@ one-fits = (lengths-exactly 1 1 .0 refl, (squares-exactly 1 1 .0 refl, refl))
 -- one that tells every card's length as the same, and one that leaves out block 0
 pub constant-length : (n : ℕ) → ((w h : ℕ) → accepted w h ≡ true → measure w h ≡ answered (n ∷ [])) → ⊥
 constant-length n promise =
-    let one = ap (figure 0) (sym (promise 1 1 one-square) ∙ measured 1 1 one-square) in
-    let two = ap (figure 0) (sym (promise 127 1 many-squares) ∙ measured 127 1 many-squares) in
+    let one = ap (figure 0) (sym (promise 1 1 one-square) ∙ measured 1 1 (one-fits .0) (one-fits .1 .0)) in
+    let two = ap (figure 0) (sym (promise 127 1 many-squares) ∙ measured 127 1 (lengths-exactly 127 1 .0 refl) (squares-exactly 127 1 .0 refl)) in
     omega arith
 
 pub without-block-0 : ((w h : ℕ) → accepted w h ≡ true → measure w h ≡ answered (512 * table-blocks (w * h) ∷ [])) → ⊥
-without-block-0 promise = let one = ap (figure 0) (sym (promise 1 1 one-square) ∙ measured 1 1 one-square) in omega arith
+without-block-0 promise = let one = ap (figure 0) (sym (promise 1 1 one-square) ∙ measured 1 1 (one-fits .0) (one-fits .1 .0)) in omega arith
 
 -- one that writes nothing: a file of zeros has no version; and one that writes whatever table it is lent
 written-there : (file : List ℕ) → length file ≡ 1024 → write 1 1 1 (right-table 1 1 1) file .refusal ≡ 0

@@ -3,7 +3,7 @@ use mathlib.Core.Bool.{Bool, true, false, not, _||_, true≢false}
 use mathlib.Core.List.{List, [], _∷_}
 use mathlib.Core.Logic.{_↔_, _⊎_, inl, inr, ⊎-elim}
 use mathlib.Core.Path.{_≡_, refl, sym, ap, subst, subst⁻¹, _∙_}
-use Prim.Native.Nat.{ℕ, _+_, _*_, _/_, _%_, _≤_, _<_}
+use Prim.Native.Nat.{ℕ, _+_, _*_, _/_, _%_, _<_}
 use native.Mathlib.Omega.{arith}
 use borrow.Author.Tests.{eqb-true, eqb-false, eq-eqb, ne-eqb}
 use lib.Dec.{eqb}
@@ -11,17 +11,17 @@ use lib.ListN.{length, getD, take, drop}
 use lib.Seq.{getD-drop}
 use Rattle.terms.specs.declared.Refusal.{Refusal}
 use Rattle.terms.specs.declared.Refusal.the-variants.{AreaLimit, TableLength, TooDeep, TooManySquares, BadCheck, Departure}
-use Rattle.terms.specs.Terms.{past-32-bits, refusal-number, Figures, answered, refused, refused-with}
-use Rattle.terms.specs.Guards.{guarded, area-guards}
+use Rattle.terms.specs.Terms.{lengths-accepted, squares-accepted, refusal-number, answered, refused, refused-with}
+use Rattle.terms.specs.Guards.{Guard, _else_, _telling_, guarded, area-guards}
 use Rattle.terms.specs.Comparing.{same-numbers}
 use Rattle.terms.proofs.Limits.{both-accepted}
 use Rattle.terms.proofs.Refusals.{refusal-one}
-use Rattle.terms.proofs.Guards.{_and_, stands, never, told-at, silent-at, refused-silent}
+use Rattle.terms.proofs.Guards.{_and_, answered-so, stands, never, told-at, silent-at, refused-silent}
 use Rattle.terms.proofs.Telling.{tells-same}
 use Rattle.terms.proofs.Meanings.{Lengths-within, Lengths-beyond, Squares-within, Squares-beyond, Meaning, Meanings, Fails-so, refused-in-numbers}
 use Rattle.terms.proofs.Meanings.{answered-in-numbers}
 use Rattle.terms.proofs.Meanings.{equal, itself, lengths-mean, squares-mean, lengths-exactly, squares-exactly}
-use Rattle.sectors.specs.Sectors.{words-of, sum, check-of, good, first-bad, whole-blocks, first-bad-in}
+use Rattle.sectors.specs.Sectors.{words-of, sum, check-of, good, whole-blocks, first-bad-in}
 use Rattle.sectors.proofs.Checks.{good-at, found, only-found, not-beyond}
 use Rattle.tables.specs.Tables.{some-deep}
 use Rattle.tables.proofs.Admitted.{not-deep}
@@ -303,3 +303,65 @@ module _ (w h : ℕ) where
   pub measure-answered : (measure w h .refusal ≡ 0) ↔ (Lengths-within w h × Squares-within w h)
   unfolding measure
   measure-answered = answered-in-numbers (area-guards w h) measure-means 1 (card-bytes w h ∷ [])
+
+  pub measured : Lengths-within w h → Squares-within w h → measure w h ≡ answered (card-bytes w h ∷ [])
+  unfolding measure
+  measured long few = answered-so (area-guards w h) 1 (card-bytes w h ∷ []) (lengths-exactly w h .1 long and squares-exactly w h .1 few)
+
+-- the numbers that each call gives, and no other
+abbrev pub Gives-length : ℕ → Type 0
+Gives-length r = (r ≡ 0) ⊎ ((r ≡ 1) ⊎ (r ≡ 13))
+
+abbrev pub Gives-written : ℕ → Type 0
+Gives-written r = (r ≡ 0) ⊎ ((r ≡ 1) ⊎ ((r ≡ 13) ⊎ ((r ≡ 4) ⊎ (r ≡ 15))))
+
+abbrev pub Gives-read : ℕ → Type 0
+Gives-read r = (r ≡ 0) ⊎ ((r ≡ 1) ⊎ ((r ≡ 13) ⊎ ((r ≡ 4) ⊎ ((r ≡ 14) ⊎ (r ≡ 15)))))
+
+pub measure-gives : (w h : ℕ) → Gives-length (measure w h .refusal)
+unfolding measure
+measure-gives w h = by (lengths-accepted w h) (squares-accepted (w * h))
+  where
+    by : (a b : Bool) → Gives-length (guarded (a else AreaLimit ∷ b else TooManySquares ∷ []) 1 (card-bytes w h ∷ []) .refusal)
+    by true true = inl refl
+    by true false = inr (inr refl)
+    by false b = inr (inl refl)
+
+pub write-gives : (w h kind : ℕ) (table file : List ℕ) → Gives-written (write w h kind table file .refusal)
+unfolding write
+write-gives w h kind table file =
+    by (lengths-accepted w h) (squares-accepted (w * h)) (eqb (length table) (w * h)) (eqb (length file) (card-bytes w h)) (not (some-deep w h)) (kind-known kind)
+    (same-numbers table (right-table w h kind)) (write-never-9 w h kind table file)
+  where
+    by : (a b c d e f g : Bool) →
+        let r = guarded (a else AreaLimit ∷ b else TooManySquares ∷ c else TableLength ∷ d else TableLength ∷ e else TooDeep ∷ f else Departure ∷ g else Departure ∷ [])
+        0 [] .refusal in
+        (r ≡ 9 → ⊥) → Gives-written r
+    by true true true true true true true deep = inl refl
+    by true true true true true true false deep = inr (inr (inr (inr refl)))
+    by true true true true true false g deep = inr (inr (inr (inr refl)))
+    by true true true true false f g deep = absurd (deep refl)
+    by true true true false e f g deep = inr (inr (inr (inl refl)))
+    by true true false d e f g deep = inr (inr (inr (inl refl)))
+    by true false c d e f g deep = inr (inr (inl refl))
+    by false b c d e f g deep = inr (inl refl)
+
+pub read-gives : (w h kind : ℕ) (file table : List ℕ) → Gives-read (read w h kind file table .refusal)
+unfolding read
+read-gives w h kind file table =
+    by (lengths-accepted w h) (squares-accepted (w * h)) (eqb (length table) (w * h)) (not (some-deep w h)) (eqb (first-bad-in file) (whole-blocks file))
+    (kind-known kind) (same-numbers file (card w h kind)) (read-never-9 w h kind file table)
+  where
+    by : (a b c d e f g : Bool) →
+        let bad : Guard = e else BadCheck telling (first-bad-in file ∷ []) in
+        let r = guarded (a else AreaLimit ∷ b else TooManySquares ∷ c else TableLength ∷ d else TooDeep ∷ bad ∷ f else Departure ∷ g else Departure ∷ [])
+        1 (0 ∷ []) .refusal in
+        (r ≡ 9 → ⊥) → Gives-read r
+    by true true true true true true true deep = inl refl
+    by true true true true true true false deep = inr (inr (inr (inr (inr refl))))
+    by true true true true true false g deep = inr (inr (inr (inr (inr refl))))
+    by true true true true false f g deep = inr (inr (inr (inr (inl refl))))
+    by true true true false e f g deep = absurd (deep refl)
+    by true true false d e f g deep = inr (inr (inr (inl refl)))
+    by true false c d e f g deep = inr (inr (inl refl))
+    by false b c d e f g deep = inr (inl refl)

@@ -59,7 +59,7 @@ pub all-right : List Case → Bool
 all-right [] = true
 all-right (c ∷ cs) = right c && all-right cs
 
--- Words of a file changed, and whole blocks from words.
+-- A file with one of its words changed, or two.
 changed : List ℕ → (i v : ℕ) → List ℕ
 changed file i v = bytes-of (set (words-of file) i v)
 
@@ -133,15 +133,19 @@ worked =
     ∷ reads 2 2 1 (changed (card 2 2 1) 0 2) 4 14 0 (7 ∷ 7 ∷ 7 ∷ 7 ∷ [])
     ∷ reads 2 2 1 (changed (card 2 2 1) 129 5) 4 14 1 (7 ∷ 7 ∷ 7 ∷ 7 ∷ [])
     ∷ reads 2 2 3 (twice-changed (card 2 2 1) 129 5 1 9) 4 14 0 (7 ∷ 7 ∷ 7 ∷ 7 ∷ [])
-    -- two changed words that keep the check: another version; a table with two places exchanged; a count with an unused word
+    -- two changed words that keep the checks good: another version; a table with two places exchanged; another count; an unused word that is not zero
     ∷ reads 2 2 1 (twice-changed (card 2 2 1) 0 2 127 12) 4 15 0 (7 ∷ 7 ∷ 7 ∷ 7 ∷ [])
     ∷ reads 2 2 1 (twice-changed (card 2 2 1) 129 3 130 2) 4 15 0 (7 ∷ 7 ∷ 7 ∷ 7 ∷ [])
     ∷ reads 2 2 1 (twice-changed (card 2 2 1) 254 5 255 12) 4 15 0 (7 ∷ 7 ∷ 7 ∷ 7 ∷ [])
     ∷ reads 2 2 1 (twice-changed (card 2 2 1) 132 1 255 12) 4 15 0 (7 ∷ 7 ∷ 7 ∷ 7 ∷ [])
+    -- words of 32 bits in a block of which no card has any: 126 times 2^32 - 1 and the count, so that the check is 1, and 2 is bad
+    ∷ reads 1 1 1 (replicate 504 255 ++ (126 ∷ 0 ∷ 0 ∷ 0 ∷ 1 ∷ 0 ∷ 0 ∷ 0 ∷ [])) 1 15 0 (7 ∷ [])
+    ∷ reads 1 1 1 (replicate 504 255 ++ (126 ∷ 0 ∷ 0 ∷ 0 ∷ 2 ∷ 0 ∷ 0 ∷ 0 ∷ [])) 1 14 0 (7 ∷ [])
     -- a kind that there is not, no file, a tail that is no whole block, an empty block added, and a whole block of zeros, whose check is bad
     ∷ reads 2 2 3 (card 2 2 1) 4 15 0 (7 ∷ 7 ∷ 7 ∷ 7 ∷ [])
     ∷ reads 2 2 1 [] 4 15 0 (7 ∷ 7 ∷ 7 ∷ 7 ∷ [])
     ∷ reads 2 2 1 (card 2 2 1 ++ (0 ∷ [])) 4 15 0 (7 ∷ 7 ∷ 7 ∷ 7 ∷ [])
+    ∷ reads 2 2 1 (card 2 2 1 ++ (0 ∷ 0 ∷ [])) 4 15 0 (7 ∷ 7 ∷ 7 ∷ 7 ∷ [])
     ∷ reads 2 2 1 (card 2 2 1 ++ bytes-of (sealed [])) 4 15 0 (7 ∷ 7 ∷ 7 ∷ 7 ∷ [])
     ∷ reads 2 2 1 (card 2 2 1 ++ replicate 512 0) 4 14 2 (7 ∷ 7 ∷ 7 ∷ 7 ∷ [])
     ∷ []

@@ -1,9 +1,9 @@
 -- A file is a card exactly if it has a card's length, its blocks' frames and checks, its head and its table: each follows from the file's words, and the words
 -- from them.
 use mathlib.Core.Bool.{Bool, true, false, not, cond}
-use mathlib.Core.List.{List, [], _∷_, _++_}
+use mathlib.Core.List.{List, _++_}
 use mathlib.Core.Path.{_≡_, refl, sym, ap, ap₂, subst, subst⁻¹, _∙_}
-use Prim.Native.Nat.{ℕ, zero, suc, _+_, _-_, _*_, _/_, _%_, _≤_, _<_, min}
+use Prim.Native.Nat.{ℕ, zero, suc, _+_, _*_, _/_, _%_, _≤_, _<_, min}
 use native.Mathlib.Omega.{arith}
 use lib.Dec.{eqb}
 use lib.ListN.{length, getD, take, drop, length-append, length-take, length-drop}
@@ -11,7 +11,7 @@ use lib.Seq.{take-all, take-at, drop-at, drop-drop}
 use Rattle.terms.specs.Terms.{Limits}
 use Rattle.terms.specs.Telling.{Tells}
 use Rattle.terms.proofs.Telling.{refuses, said-no, tells-so}
-use Rattle.sectors.specs.Sectors.{words-of, bytes-of, sealed, packed, first-bad, first-bad-in, whole-blocks}
+use Rattle.sectors.specs.Sectors.{words-of, sealed, packed, first-bad, first-bad-in, whole-blocks}
 use Rattle.sectors.specs.Steps.{slice, Has, Framed}
 use Rattle.sectors.proofs.Words.{Bytes, words-length, words-back, bytes-length, same-bytes}
 use Rattle.sectors.proofs.Entering.{slice-at}
@@ -19,9 +19,9 @@ use Rattle.sectors.proofs.Checks.{good-at, found, only-found}
 use Rattle.sectors.proofs.Packing.{sealed-length, block-is, block-has, block-framed, block-good, few-taken, packed-length, packed-block, slice-join}
 use Rattle.sectors.proofs.Packing.{blocks-packed}
 use Rattle.tables.specs.Tables.{due-by}
-use Rattle.tables.proofs.PlaceByPlace.{ps-length, values-below, due-there, looked-for, looked-below, looked-at, due-length}
+use Rattle.tables.proofs.PlaceByPlace.{values-below, due-there, looked-for, looked-below, looked-at, due-length}
 use Rattle.layouts.specs.Layouts.{head, table-blocks, card-words, card-of, right-table, card, card-bytes}
-use Rattle.layouts.specs.Steps.{Room, table-word, in-use, Told, entries, Right-told, Frames, Headed}
+use Rattle.layouts.specs.Steps.{table-word, in-use, entries, Right-told, Frames, Headed}
 
 pub either-below : (by : Bool) {p q n : ℕ} → p < n → q < n → cond by p q < n
 either-below true l m = l

@@ -2,7 +2,7 @@
 use mathlib.Core.Bool.{Bool, true, false}
 use mathlib.Core.List.{List, _++_}
 use mathlib.Core.Path.{_≡_, refl, sym, ap, ap₂, subst, subst⁻¹, _∙_}
-use Prim.Native.Nat.{ℕ, _+_, _-_, _*_, _/_, _%_, _≤_, _<_, min}
+use Prim.Native.Nat.{ℕ, _+_, _-_, _*_, _/_, _%_, _≤_, _<_}
 use native.Mathlib.Omega.{arith}
 use borrow.Author.Tests.{ltb-true, ltb-false}
 use lib.Dec.{ltb}
@@ -10,9 +10,9 @@ use lib.ListN.{length, getD, length-append, List·getD-append}
 use Rattle.terms.specs.Terms.{Limits}
 use Rattle.terms.specs.Telling.{Tells}
 use Rattle.terms.proofs.Telling.{tells-so}
-use Rattle.sectors.specs.Steps.{slice, Has}
-use Rattle.sectors.proofs.Entering.{slice-length, slice-at}
-use Rattle.tables.proofs.PlaceByPlace.{ps-length, values-below}
+use Rattle.sectors.specs.Steps.{Has}
+use Rattle.stretches.specs.Stretch.{entries-from}
+use Rattle.stretches.proofs.Stretches.{entries-length, entry-at, entry-in-area}
 use Rattle.layouts.specs.Steps.{table-word, in-use, Told, All-told, entries, Right-told, Part-told, Below}
 
 -- the entries of block b of a stretch, of those below m
@@ -58,15 +58,15 @@ pub right-part : (by : Bool) (words : List ℕ) (w h at m : ℕ) → at + m ≤ 
 right-part by words w h at m room all i l = all (at + i) (omega arith)
 
 -- the lent buffer has the entries in front
-module _ (w h first m : ℕ) (t : Limits w h) (room : first + m ≤ w * h) {es : List ℕ} (is : es ≡ slice (entries w h) first m) (rest : List ℕ) where
+module _ (w h first m : ℕ) (t : Limits w h) (room : first + m ≤ w * h) {es : List ℕ} (is : es ≡ entries-from w h first m) (rest : List ℕ) where
   front-length : length es ≡ m
-  front-length =
-      let all = ps-length w h (t .w-least) (t .h-least) in
-      ap length is ∙ slice-length (entries w h) first m (omega arith)
+  front-length = ap length is ∙ entries-length w h (t .w-least) (t .h-least) first m room
 
   pub in-front : (i : ℕ) → i < m → getD (es ++ rest) i 0 ≡ getD (entries w h) (first + i) 0
   in-front i l =
-      List·getD-append es rest 0 i (let z = front-length in omega arith) ∙ ap (λ (ps : List ℕ). getD ps i 0) is ∙ slice-at (entries w h) first m i l
+      List·getD-append es rest 0 i (let z = front-length in omega arith)
+      ∙ ap (λ (ps : List ℕ). getD ps i 0) is
+      ∙ entry-at w h (t .w-least) (t .h-least) first m room i l
 
   pub enough : m ≤ length (es ++ rest)
   enough =
@@ -76,8 +76,8 @@ module _ (w h first m : ℕ) (t : Limits w h) (room : first + m ≤ w * h) {es :
 
   pub all-below : Below (es ++ rest) m (w * h)
   all-below i l =
-      let same = in-front i l in
-      let entry = values-below w h (t .w-least) (t .h-least) (first + i) (omega arith) (first + i) refl .1 in
+      let same = in-front i l ∙ sym (entry-at w h (t .w-least) (t .h-least) first m room i l) in
+      let entry = entry-in-area w h (t .w-least) (t .h-least) first m room i l in
       omega arith
 
   pub buffer-tells : (by : Bool) (words : List ℕ) {r : Bool} → Tells r (All-told by words first (es ++ rest) m) → Tells r (Part-told by words w h first m)

@@ -1,21 +1,21 @@
 -- A table written and copied out block by block: how far a loop has got, and that the whole file is the card then.
 use mathlib.Core.Bool.{Bool, true, false}
-use mathlib.Core.List.{List, [], _∷_, _++_, append-assoc, append-nil}
+use mathlib.Core.List.{List, _++_, append-assoc, append-nil}
 use mathlib.Core.Path.{_≡_, refl, sym, ap, ap₂, _∙_}
-use Prim.Native.Nat.{ℕ, zero, suc, _+_, _-_, _*_, _/_, _%_, _≤_, _<_, min}
+use Prim.Native.Nat.{ℕ, zero, suc, _+_, _-_, _*_, _/_, _%_, _≤_, _<_}
 use native.Mathlib.Numerals.{add-one}
 use native.Mathlib.Omega.{arith}
 use borrow.Author.Tests.{leb-true, leb-false, ltb-true, ltb-false}
 use lib.Dec.{leb, ltb}
 use lib.ListN.{length, getD, take, drop, length-drop, length-append, drop-of-length-le, List·getD-append}
-use lib.Seq.{sets, sets-eq, length-sets, take-all, drop-drop, getD-take, getD-append-add, length-take-le, ext-getD}
+use lib.Seq.{sets, sets-eq, take-all, drop-drop, getD-take, getD-append-add, length-take-le, ext-getD}
 use Rattle.sectors.specs.Sectors.{words-of, bytes-of, sealed, packed}
 use Rattle.sectors.specs.Steps.{slice}
-use Rattle.sectors.proofs.Words.{Bytes, words-length, same-bytes}
+use Rattle.sectors.proofs.Words.{Bytes, same-bytes}
 use Rattle.sectors.proofs.Entering.{sets-append, slice-length, slice-at}
 use Rattle.sectors.proofs.Packing.{sealed-length, packed-length}
 use Rattle.tables.proofs.PlaceByPlace.{places-length, place-holds}
-use Rattle.layouts.specs.Layouts.{head, table-blocks, card-words, card-of}
+use Rattle.layouts.specs.Layouts.{head, table-blocks, card-of}
 use Rattle.layouts.specs.Steps.{table-word, in-use, table-in}
 
 -- a block's words are those in use

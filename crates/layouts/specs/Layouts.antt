@@ -1,6 +1,5 @@
 -- What a card is: the file of an area's table, in blocks of 512 bytes, and how long it is. Document 02, order 8: "Block 0 uses four words .. The table follows
 -- from block 1, each block full but perhaps the last, none empty." A block is that of `sectors`.
-use mathlib.Core.Bool.{Bool}
 use mathlib.Core.List.{List, [], _∷_, _++_}
 use Prim.Native.Nat.{ℕ, _+_, _*_, _/_}
 use lib.Dec.{eqb}

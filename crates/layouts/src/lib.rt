@@ -139,7 +139,7 @@ fn head_held(file: &[u8], w: u32, h: u32, kind: u32) -> bool
     sectors::is_framed(file, 0, 4)
 }
 
-// Whether a file without a bad check is the card of the area's right table, of a kind that there is.
+// Whether a file without a bad check is the card of the area's right table: by square if kind 2 is told, else by number.
 pub fn is_card(file: &[u8], area: Area, kind: u32) -> bool
     requires { ⌜ Limits (area .w) (area .h) × (first-bad-in (now file) ≡ whole-blocks (now file)) ⌝ }
     ensures { λ r. ⌜ Tells r (now (file .entry) ≡ card (area .w) (area .h) kind) ⌝ }

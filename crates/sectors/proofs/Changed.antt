@@ -4,15 +4,15 @@ use mathlib.Core.List.{List, [], _∷_}
 use mathlib.Core.Path.{_≡_, refl, sym, ap, ap₂, subst⁻¹, _∙_}
 use Prim.Native.Nat.{ℕ, zero, suc, _+_, _-_, _*_, _/_, _%_, _≤_, _<_}
 use native.Mathlib.Omega.{arith}
-use borrow.Author.Tests.{eqb-true, eqb-false, eq-eqb, ne-eqb, ltb-true, ltb-false}
+use borrow.Author.Tests.{eqb-true, eqb-false, ne-eqb, ltb-true, ltb-false}
 use lib.Dec.{eqb, ltb}
 use lib.ListN.{length, getD, take, drop, set, length-set, length-drop}
-use lib.Seq.{getD-set-same, getD-set-other, set-getD, getD-take, getD-drop, take-take, take-set-lt, take-set-le, drop-set-add, drop-set-lt, length-take-le}
+use lib.Seq.{getD-set-same, getD-set-other, set-getD, getD-take, getD-drop, take-take, take-set-lt, take-set-le, drop-set-add, length-take-le}
 use lib.Seq.{ext-getD}
 use Rattle.terms.specs.Terms.{past-32-bits}
 use Rattle.sectors.specs.Sectors.{word-of, words-of, bytes-of, sum, check-of, good, first-bad, first-bad-in, whole-blocks}
 use Rattle.sectors.proofs.Words.{Bytes, words-length, word-is, word-small, bytes-back}
-use Rattle.sectors.proofs.Checks.{good-at, Found, found, only-found}
+use Rattle.sectors.proofs.Checks.{good-at, found, only-found}
 
 -- the sum of words with one set
 set-sum : (vs : List ℕ) (i v : ℕ) → i < length vs → sum (set vs i v) + getD vs i 0 ≡ sum vs + v

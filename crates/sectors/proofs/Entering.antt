@@ -1,11 +1,11 @@
 -- Words entered into a list one after the other, and a slice of a list by its places: where a loop that enters the words of a slice has got to.
 use mathlib.Core.List.{List, [], _∷_, _++_}
 use mathlib.Core.Path.{_≡_, refl, sym, ap, ap₂, _∙_}
-use Prim.Native.Nat.{ℕ, zero, suc, _+_, _-_, _*_, _/_, _≤_, _<_}
+use Prim.Native.Nat.{ℕ, zero, suc, _+_, _≤_, _<_}
 use native.Mathlib.Numerals.{add-one}
 use native.Mathlib.Nat.{add-suc, suc-add, add-zero}
 use native.Mathlib.Omega.{arith}
-use lib.ListN.{length, getD, take, drop, set, replicate, length-drop, length-replicate}
+use lib.ListN.{length, getD, take, drop, set, replicate, length-drop}
 use lib.Seq.{sets, take-suc, take-all, length-take-le, getD-take, getD-drop}
 use Rattle.sectors.specs.Steps.{slice}
 

@@ -9,7 +9,7 @@ use borrow.Author.Tests.{eqb-true, eq-eqb, ltb-true, ltb-false}
 use lib.Dec.{ltb}
 use lib.ListN.{length, getD, take, drop, replicate, length-append, length-replicate, length-drop, length-take, take-append-drop, List·getD-append}
 use lib.ListN.{List·getD-eq-default}
-use lib.Seq.{take-suc, take-at, drop-at, getD-at, getD-take, getD-drop, drop-drop, take-take, take-append-add, take-append-le, take-all, length-take-le}
+use lib.Seq.{take-suc, take-at, drop-at, getD-at, getD-drop, drop-drop, take-take, take-append-add}
 use lib.Seq.{ext-getD}
 use Rattle.sectors.specs.Sectors.{check-of, counted, sealed, packed, good}
 use Rattle.sectors.specs.Steps.{slice, Has, Framed}

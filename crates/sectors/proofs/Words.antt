@@ -1,7 +1,7 @@
 -- Words and their bytes: each is the other's way back; a word by its four bytes, and words with one entered; and the sum of words.
 use mathlib.Core.List.{List, [], _∷_, _++_}
 use mathlib.Core.Path.{_≡_, refl, sym, ap, ap₂, _∙_}
-use Prim.Native.Nat.{ℕ, zero, suc, _+_, _-_, _*_, _/_, _%_, _≤_, _<_}
+use Prim.Native.Nat.{ℕ, zero, suc, _+_, _*_, _/_, _%_, _≤_, _<_}
 use native.Mathlib.Numerals.{add-one}
 use native.Mathlib.Omega.{arith}
 use lib.ListN.{length, getD, take, set}
@@ -134,3 +134,9 @@ unfolding bytes-of
 lowest-first [] i l = absurd (omega arith)
 lowest-first (v ∷ vs) zero l = (refl, (refl, (refl, refl)))
 lowest-first (v ∷ vs) (suc i) l = rw (four-on i 1, four-on i 2, four-on i 3, four-more i) (lowest-first vs i (omega arith))
+
+-- the same of a file, whatever its length is, in numbers
+pub word-in-numbers : (file : List ℕ) (i : ℕ) → 4 * i + 4 ≤ length file
+    → getD (words-of file) i 0
+    ≡ getD file (4 * i) 0 + 256 * getD file (4 * i + 1) 0 + 65536 * getD file (4 * i + 2) 0 + 16777216 * getD file (4 * i + 3) 0
+word-in-numbers file i l = let is = word-is file i l in omega (arith, is)

@@ -24,7 +24,7 @@ pub fn word_at(bytes: &[u8], i: usize) -> u32
 }
 
 // Word number i becomes v.
-pub fn put_word(bytes: &mut [u8], i: usize, v: u32)
+fn put_word(bytes: &mut [u8], i: usize, v: u32)
     requires { ⌜ 4 * i + 4 ≤ length (now bytes) ⌝ }
     ensures { λ r. ⌜ words-of (now (bytes .exit)) ≡ set (words-of (now (bytes .entry))) i v ⌝ }
 {
@@ -129,7 +129,7 @@ fn put_zeros(bytes: &mut [u8], at: usize, n: usize)
 }
 
 // Block b gets its count, and then its check.
-pub fn seal(bytes: &mut [u8], b: usize, used: usize)
+fn seal(bytes: &mut [u8], b: usize, used: usize)
     requires { ⌜ (512 * b + 512 ≤ length (now bytes)) × (used ≤ 126) ⌝ }
     ensures { λ r. ⌜ words-of (now (bytes .exit)) ≡ sealed-at (words-of (now (bytes .entry))) b used ⌝ }
 {

@@ -30,7 +30,6 @@ part-tells : (put : tie.After-stretch) (by : Bool) {r : Bool} →
     let words = words-of (given .file .now) in
     Tells r (All-told by words (given .first) (put .stretch .last .1 .1 .0 ++ drop (given .m) (given .buffer .now)) (given .m))
     → Tells r (Part-told by words (given .area .w) (given .area .h) (given .first) (given .m))
-unfolding entries-from
 part-tells put by tells =
     let start = put .before .before .before .before in
     let given = start .args in
@@ -51,7 +50,6 @@ stretch-requires c κs =
     (t .w-least, t .w-most, t .h-least, t .h-most, omega arith)
 
 numbers-held-requires : tie.Need-numbers-held-requires
-unfolding entries-from
 numbers-held-requires c κs =
     let put = c .before .before .before .before .before in
     let start = put .before .before .before .before in
@@ -76,7 +74,6 @@ returns c =
     (part-tells put true (c .numbers-held .ensures))
 
 entries-held-requires : tie.Need-entries-held-requires
-unfolding entries-from
 entries-held-requires c κs =
     let put = c .before .before .before .before .before in
     let start = put .before .before .before .before in
