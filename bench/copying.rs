@@ -3,7 +3,7 @@
 use crate::strong::{even_half, judged, leaf, look_leaf, look_straight, moved, straight, Wrong};
 
 // A place of one block as the other has it.
-fn image(place: u32, constant: u32, opposite: bool) -> u32 {
+pub fn image(place: u32, constant: u32, opposite: bool) -> u32 {
     if opposite { constant.wrapping_sub(place) } else { place.wrapping_add(constant) }
 }
 
@@ -25,7 +25,7 @@ fn agree(table: &[u32], from: u32, to: u32, n: u32, constant: u32, opposite: boo
 }
 
 // Fills a block from its first number and place on, and counts the blocks of its division.
-fn walk(table: &mut [u32], number: u32, place: u32, run: i32, side: i32, a: u32, b: u32) -> u64 {
+pub fn walk(table: &mut [u32], number: u32, place: u32, run: i32, side: i32, a: u32, b: u32) -> u64 {
     if b == 1 {
         straight::<false>(table, number, place, run, a);
         1

@@ -1,6 +1,7 @@
 // The stack that each call takes at 4,096 by 4,096, in bytes, read from the compiled code on standard input (`objdump -dr --no-show-raw-insn`):
 // what a function pushes and reserves and its return address, for the call and for all that it calls in turn. A walk calls itself once for each
-// block that it opens in another, so its share is taken as often as such blocks are nested.
+// block that it opens in another, so its share is taken as often as such blocks are nested. A walk that hands a block to another leaves it only the blocks
+// inside.
 use std::collections::{BTreeMap, BTreeSet, HashMap};
 use std::io::Read;
 
@@ -12,9 +13,13 @@ fn even_half(length: u32) -> u32 {
     if length > 2 && half % 2 == 1 { half + 1 } else { half }
 }
 
-// How many blocks, each in the one before, a walk opens at most in an a by b block. What is straight, or 2 wide and at most 3 deep, it does not cut.
-fn nested(a: u32, b: u32, known: &mut HashMap<(u32, u32), usize>) -> usize {
-    if a == 1 || b == 1 || a == 2 && b <= 3 {
+// The walk that cuts a block 2 wide too, where only a part of it lies in the stretch.
+const OF_STRETCHES: &str = "stretches::stretch_block";
+
+// How many blocks, each in the one before, a walk opens at most in an a by b block. What is straight it does not cut; what is 2 wide and at most 3 deep is cut
+// by the walk of a stretch only.
+fn nested(a: u32, b: u32, of_stretches: bool, known: &mut HashMap<(u32, u32), usize>) -> usize {
+    if a == 1 || b == 1 || a == 2 && b <= 3 && !of_stretches {
         return 1;
     }
     if let Some(&n) = known.get(&(a, b)) {
@@ -27,7 +32,7 @@ fn nested(a: u32, b: u32, known: &mut HashMap<(u32, u32), usize>) -> usize {
         let e = even_half(b);
         vec![(e, a / 2), (a, b - e), (e, a - a / 2)]
     };
-    let n = 1 + parts.into_iter().map(|(a, b)| nested(a, b, known)).max().unwrap();
+    let n = 1 + parts.into_iter().map(|(a, b)| nested(a, b, of_stretches, known)).max().unwrap();
     known.insert((a, b), n);
     n
 }
@@ -52,6 +57,7 @@ fn lowers(instruction: &str) -> usize {
         ["push", _] => 8,
         ["sub", operands] if operands.ends_with(",%rsp") => number(operands.trim_start_matches('$').trim_end_matches(",%rsp")),
         ["sub", "sp,", "sp,", size] => number(size.trim_start_matches('#')),
+        ["sub", "sp,", "sp,", size, "lsl", "#12"] => number(size.trim_start_matches('#').trim_end_matches(',')) << 12,
         _ => instruction.split_once("[sp, #-").and_then(|(_, rest)| rest.split_once("]!")).map_or(0, |(size, _)| number(size)),
     }
 }
@@ -86,10 +92,13 @@ fn read(code: &str) -> BTreeMap<String, Function> {
     functions
 }
 
-fn takes(name: &str, functions: &BTreeMap<String, Function>, depth: usize) -> usize {
+// The bytes of a call that begins on a block inside so many others. What a walk calls begins on the block that it has opened last.
+fn takes(name: &str, functions: &BTreeMap<String, Function>, depth: &dyn Fn(&str) -> usize, inside: usize) -> usize {
     let Some(function) = functions.get(name) else { return 0 };
-    let below = function.calls.iter().filter(|callee| *callee != name).map(|callee| takes(callee, functions, depth)).max().unwrap_or(0);
-    function.frame * if function.calls.contains(name) { depth } else { 1 } + below
+    let others = || function.calls.iter().filter(|callee| *callee != name);
+    let opens = if function.calls.contains(name) { depth(name).saturating_sub(inside).max(1) } else { 1 };
+    let with_opened = |n: usize| function.frame * n + others().map(|callee| takes(callee, functions, depth, inside + n - 1)).max().unwrap_or(0);
+    (1..=opens).map(with_opened).max().unwrap_or(0)
 }
 
 fn main() {
@@ -97,11 +106,12 @@ fn main() {
     std::io::stdin().read_to_string(&mut code).unwrap();
     let functions = read(&code);
     let (w, h) = DEEPEST;
-    let depth = nested(w, h, &mut HashMap::new());
+    let (plain, of_stretches) = (nested(w, h, false, &mut HashMap::new()), nested(w, h, true, &mut HashMap::new()));
+    let depth = |name: &str| if name == OF_STRETCHES { of_stretches } else { plain };
     println!("### Stack\n\nFrom the compiled code, with the return addresses, at {w} by {h}.\n");
     println!("| call | bytes |\n|---|---|");
     for name in functions.keys().filter(|name| name.starts_with("uvalinda_")) {
-        println!("| {name} | {} |", takes(name, &functions, depth));
+        println!("| {name} | {} |", takes(name, &functions, &depth, 0));
     }
-    println!("\nA walk opens at most {depth} blocks of {w} by {h}, each in the one before, and no more of any other area.");
+    println!("\nA walk opens at most {plain} blocks of {w} by {h}, each in the one before, that of a stretch {of_stretches}, and no more of any other area.");
 }
