@@ -25,7 +25,6 @@ so-many : (start : tie.Start Inv-entered μ-left) →
     length (slice (words-of (given .bytes .now)) (given .at) (given .n)) ≡ given .n
 so-many start =
     let given = start .args in
-    let room = start .pre .0 in
     let all = words-length (given .bytes .now) in
     slice-length (words-of (given .bytes .now)) (given .at) (given .n) (omega arith)
 
@@ -33,10 +32,7 @@ loop-holds : tie.Need-loop-holds Inv-entered μ-left
 loop-holds c = (omega arith, refl, refl)
 
 slice-write-words : tie.Need-slice-write-words Inv-entered μ-left
-slice-write-words c =
-    let turn = c .before .before in
-    let same = turn .loop .inv .1 in
-    omega arith
+slice-write-words c = omega arith
 
 loop-again : tie.Need-loop-again Inv-entered μ-left
 loop-again c =
@@ -61,7 +57,6 @@ returns c =
     let turn = c .before in
     let start = turn .before .before .before in
     let given = start .args in
-    let last = c .loop-test .left in
     let long = so-many start in
     all-entered (given .words .now) (given .to) (slice (words-of (given .bytes .now)) (given .at) (given .n)) (turn .loop .i) (omega arith)
     (turn .loop .inv .2)

@@ -26,11 +26,9 @@ loop-holds c = (omega arith, refl, omega arith, (λ e j l. absurd (omega arith),
 loop-again : tie.Need-loop-again Inv-counted μ-left
 loop-again c =
     let read = c .before .before in
-    let test = read .before in
-    let turn = test .before in
+    let turn = read .before .before in
     let given = turn .before .before .before .args in
     let words = words-of (given .bytes .now) in
-    let more = test .loop-test .taken in
     let here = read .word-at .ensures in
     let still-tells =
     counted-more (λ i. getD words (given .at + i) 0 ≡ getD (given .words .now) (given .from + i) 0) (turn .loop .i) (turn .loop .same) (c .if1 .same)
@@ -42,8 +40,6 @@ returns : tie.Need-returns Inv-counted μ-left
 returns c =
     let turn = c .before in
     let given = turn .before .before .before .args in
-    let most = turn .loop .inv .0 in
-    let last = c .loop-test .left in
     let all : turn .loop .i ≡ given .n = omega arith in
     subst (λ (i : ℕ). Tells (eqb (turn .loop .same) i) (Has (words-of (given .bytes .now)) (given .at) (given .words .now) (given .from) i)) all
     (turn .loop .inv .3)

@@ -18,9 +18,7 @@ abbrev μ-left : tie.MeasureT-loop
 μ-left bytes b used j₀ j = 126 - j
 
 loop-holds : tie.Need-loop-holds Inv-zero-so-far μ-left
-loop-holds c =
-    let most = c .before .pre .1 in
-    (omega arith, omega arith, λ i m l. absurd (omega arith))
+loop-holds c = (omega arith, omega arith, λ i m l. absurd (omega arith))
 
 returns : tie.Need-returns Inv-zero-so-far μ-left
 returns c =
@@ -32,12 +30,9 @@ returns c =
 loop-again : tie.Need-loop-again Inv-zero-so-far μ-left
 loop-again c =
     let read = c .before in
-    let test = read .before in
-    let turn = test .before in
+    let turn = read .before .before in
     let given = turn .before .before .args in
-    let words = words-of (given .bytes .now) in
-    let least = turn .loop .inv .0 in
-    let more = test .loop-test .taken in (
+    let words = words-of (given .bytes .now) in (
       omega arith,
       omega arith,
       between-more (λ i. getD words (128 * given .b + i) 0 ≡ 0) (given .used) (turn .loop .j) (turn .loop .inv .2)
@@ -46,11 +41,8 @@ loop-again c =
 
 returns-2 : tie.Need-returns-2 Inv-zero-so-far μ-left
 returns-2 c =
-    let end = c .before in
-    let turn = end .before in
+    let turn = c .before .before in
     let given = turn .before .before .args in
-    let most = turn .loop .inv .1 in
-    let last = end .loop-test .left in
     let is-count = c .word-at2 .ensures in
     tells-equal (c .word-at2 .result) (given .used) (λ e. (λ i m l. turn .loop .inv .2 i m (omega arith), sym is-count ∙ e))
     (λ framed. is-count ∙ framed .1)

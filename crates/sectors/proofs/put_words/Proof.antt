@@ -22,10 +22,7 @@ loop-holds : tie.Need-loop-holds Inv-entered μ-left
 loop-holds c = (omega arith, refl, refl)
 
 put-word-requires : tie.Need-put-word-requires Inv-entered μ-left
-put-word-requires c κs =
-    let turn = c .before .before .before in
-    let same = turn .loop .inv .1 in
-    omega arith
+put-word-requires c κs = omega arith
 
 loop-again : tie.Need-loop-again Inv-entered μ-left
 loop-again c =
@@ -53,7 +50,6 @@ returns c =
     let start = turn .before .before .before in
     let given = start .args in
     let words = given .words .now in
-    let last = c .loop-test .left in
     let long = slice-length words (given .from) (given .n) (start .pre .1) in
     all-entered (words-of (given .bytes .now)) (given .at) (slice words (given .from) (given .n)) (turn .loop .i) (omega arith) (turn .loop .inv .2)
 

@@ -1,6 +1,5 @@
 -- `sectors::put_zeros` meets its contract. The invariant: i zeros are entered; the measure is what is left of them. A word that is zero is entered without being
 -- written.
-use mathlib.Core.List.{List}
 use mathlib.Core.Logic.{⊎-elim}
 use mathlib.Core.Path.{_≡_, refl, sym, ap, _∙_}
 use Prim.Native.Nat.{ℕ, _+_, _-_, _≤_}
@@ -24,16 +23,10 @@ loop-holds : tie.Need-loop-holds Inv-entered μ-left
 loop-holds c = (omega arith, refl, refl)
 
 word-at-requires : tie.Need-word-at-requires Inv-entered μ-left
-word-at-requires c κs =
-    let turn = c .before .before in
-    let same = turn .loop .inv .1 in
-    omega arith
+word-at-requires c κs = omega arith
 
 put-word-requires : tie.Need-put-word-requires Inv-entered μ-left
-put-word-requires c κs =
-    let turn = c .before .before .before .before .before in
-    let same = turn .loop .inv .1 in
-    omega arith
+put-word-requires c κs = omega arith
 
 -- word i is zero now, written or not
 zero-now : (c : tie.Joined1 Inv-entered μ-left) →
@@ -56,10 +49,8 @@ zero-now c =
 
 loop-again : tie.Need-loop-again Inv-entered μ-left
 loop-again c =
-    let test = c .before .before .before in
-    let turn = test .before in
+    let turn = c .before .before .before .before in
     let given = turn .before .before .args in
-    let more = test .loop-test .taken in
     let long = length-replicate {A = ℕ} (given .n) 0 in
     let now = zero-now c in (
       omega arith,
@@ -76,7 +67,6 @@ returns : tie.Need-returns Inv-entered μ-left
 returns c =
     let turn = c .before in
     let given = turn .before .before .args in
-    let last = c .loop-test .left in
     let long = length-replicate {A = ℕ} (given .n) 0 in
     all-entered (words-of (given .bytes .now)) (given .at) (replicate {A = ℕ} (given .n) 0) (turn .loop .i) (omega arith) (turn .loop .inv .2)
 

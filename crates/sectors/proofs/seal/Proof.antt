@@ -14,7 +14,6 @@ returns c =
     let counted = summed .before .before .before .before in
     let start = counted .before .before .before in
     let given = start .args in
-    let room = start .pre .0 in
     let all = words-length (given .bytes .now) in
     count-and-check (words-of (given .bytes .now)) (given .b) (given .used) (summed .check-due .result) (omega arith) (counted .put-word .ensures)
     (summed .check-due .ensures) (checked .put-word2 .ensures)

@@ -24,30 +24,23 @@ loop-holds c = (omega arith, omega arith, refl)
 
 loop-again : tie.Need-loop-again Inv-summed μ-left
 loop-again c =
-    let test = c .before in
-    let turn = test .before in
+    let turn = c .before .before in
     let start = turn .before .before in
     let at = start .args .at in
     let bytes = start .args .bytes .now in
-    let rest = drop at (words-of bytes) in
-    let room = start .pre in
-    let more = test .loop-test .taken in
     let all = words-length bytes in
     let long = length-drop at (words-of bytes) in (
       omega arith,
       omega arith,
       ap₂ _+_ (turn .loop .inv .2) (c .word-at .ensures ∙ sym (getD-drop at (words-of bytes) (turn .loop .i) 0))
-          ∙ sym (sum-more rest (turn .loop .i) (omega arith)),
+          ∙ sym (sum-more (drop at (words-of bytes)) (turn .loop .i) (omega arith)),
     )
 
 returns : tie.Need-returns Inv-summed μ-left
 returns c =
     let turn = c .before in
     let given = turn .before .before .args in
-    let most = turn .loop .inv .0 in
-    let last = c .loop-test .left in
-    let all : turn .loop .i ≡ 127 = omega arith in
-    let small = turn .loop .inv .1 in (
+    let all : turn .loop .i ≡ 127 = omega arith in (
       omega arith,
       turn .loop .inv .2 ∙ ap (λ (n : ℕ). Sectors.sum (slice (words-of (given .bytes .now)) (given .at) n)) all,
     )

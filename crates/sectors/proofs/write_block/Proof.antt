@@ -17,7 +17,6 @@ returns c =
     let start = entered .before .before .before .before in
     let given = start .args in
     let words = given .words .now in
-    let room = start .pre .0 in
     let all = words-length (given .bytes .now) in
     let long = slice-length words (given .from) (given .n) (start .pre .2) in
     block-written (words-of (given .bytes .now)) (slice words (given .from) (given .n)) (given .b) (given .n) (omega arith) long (start .pre .1)
