@@ -38,33 +38,16 @@ block-tells looked =
     (counted .lesser .ensures) (looked .has-words .ensures)
 
 blocks-for-requires : tie.Need-blocks-for-requires Inv-told μ-left
-blocks-for-requires c κs =
-    let start = c .before .before in
-    let few = start .pre .1 in
-    let all = start .pre .3 in
-    omega arith
+blocks-for-requires c κs = omega arith
 
 loop-holds : tie.Need-loop-holds Inv-told μ-left
 loop-holds c = (omega arith, c .blocks-for .ensures, λ i l. absurd (omega arith))
 
 sub-lesser : tie.Need-sub-lesser Inv-told μ-left
-sub-lesser c =
-    let is-blocks = c .before .loop .inv .1 in
-    omega arith
+sub-lesser c = omega arith
 
 has-words-requires : tie.Need-has-words-requires Inv-told μ-left
-has-words-requires c κs =
-    let test = c .before in
-    let turn = test .before in
-    let start = turn .before .before .before .before in
-    let is-blocks = turn .loop .inv .1 in
-    let is-n = c .lesser .ensures in
-    let more = test .loop-test .taken in
-    let room = start .pre .0 in
-    let begins = start .pre .2 in
-    let all = start .pre .3 in
-    let enough = start .pre .4 in
-    (omega arith, omega arith)
+has-words-requires c κs = (omega arith, omega arith)
 
 returns : tie.Need-returns Inv-told μ-left
 returns c =
@@ -78,11 +61,9 @@ returns c =
 loop-again : tie.Need-loop-again Inv-told μ-left
 loop-again c =
     let looked = c .before in
-    let test = looked .before .before in
-    let turn = test .before in
+    let turn = looked .before .before .before in
     let start = turn .before .before .before .before in
-    let given = start .args in
-    let more = test .loop-test .taken in (
+    let given = start .args in (
       omega arith,
       turn .loop .inv .1,
       blocks-more (words-of (given .file .now)) (given .first) (given .entries .now) (given .m) (turn .loop .b) (start .pre .2) (turn .loop .inv .2)
@@ -90,11 +71,7 @@ loop-again c =
     )
 
 returns-2 : tie.Need-returns-2 Inv-told μ-left
-returns-2 c =
-    let turn = c .before in
-    let last = c .loop-test .left in
-    let is-blocks = turn .loop .inv .1 in
-    grants (λ i l. turn .loop .inv .2 i (omega arith) l)
+returns-2 c = grants (λ i l. c .before .loop .inv .2 i (omega arith) l)
 
 pub entries-held-spec : {M : Type 1} → statement M
 entries-held-spec =

@@ -34,33 +34,22 @@ loop-holds : tie.Need-loop-holds Inv-framed μ-left
 loop-holds c = (omega arith, c .blocks-for .ensures, λ b l. absurd (omega arith))
 
 sub-lesser : tie.Need-sub-lesser Inv-framed μ-left
-sub-lesser c =
-    let is-blocks = c .before .loop .inv .1 in
-    omega arith
+sub-lesser c = omega arith
 
 is-framed-requires : tie.Need-is-framed-requires Inv-framed μ-left
-is-framed-requires c κs =
-    let turn = c .before .before in
-    let is-blocks = turn .loop .inv .1 in
-    let is-used = c .lesser .ensures in
-    (omega arith, omega arith)
+is-framed-requires c κs = (omega arith, omega arith)
 
 returns : tie.Need-returns Inv-framed μ-left
 returns c =
     let looked = c .before in
-    let test = looked .before .before in
-    let turn = test .before in
-    let is-blocks = turn .loop .inv .1 in
-    let more = test .loop-test .taken in
+    let turn = looked .before .before .before in
     refuses (λ frames. said-no (block-tells looked) (c .if1 .taken) (frames (turn .loop .b) (omega arith)))
 
 loop-again : tie.Need-loop-again Inv-framed μ-left
 loop-again c =
     let looked = c .before in
-    let test = looked .before .before in
-    let turn = test .before in
-    let given = turn .before .before .before .args in
-    let more = test .loop-test .taken in (
+    let turn = looked .before .before .before in
+    let given = turn .before .before .before .args in (
       omega arith,
       turn .loop .inv .1,
       λ i l. between-more (λ b. Framed (words-of (given .file .now)) (1 + b) (in-use (given .places) b)) 0 (turn .loop .b)
@@ -68,11 +57,7 @@ loop-again c =
     )
 
 returns-2 : tie.Need-returns-2 Inv-framed μ-left
-returns-2 c =
-    let turn = c .before in
-    let last = c .loop-test .left in
-    let is-blocks = turn .loop .inv .1 in
-    grants (λ b l. turn .loop .inv .2 b (omega arith))
+returns-2 c = grants (λ b l. c .before .loop .inv .2 b (omega arith))
 
 pub frames-held-spec : {M : Type 1} → statement M
 frames-held-spec =

@@ -5,7 +5,6 @@ use Prim.Native.Nat.{_<_, _+_, _-_, _≤_}
 use native.Mathlib.Omega.{arith}
 use borrow.Author.Needs.{needs}
 use lib.ListN.{getD}
-use Rattle.terms.specs.Terms.{most-squares}
 use Rattle.terms.proofs.Telling.{refuses, grants, between-more}
 use Rattle.sectors.specs.Sectors.{words-of}
 use Rattle.layouts.specs.Steps.{Told, All-told}
@@ -18,16 +17,16 @@ Inv-told file first entries m places i₀ i = (i ≤ m) × All-told true (words-
 abbrev μ-left : tie.MeasureT-loop
 μ-left file first entries m places i₀ i = m - i
 
--- the entry that is read is a place of the table, which has not too many
+-- the entry that is read is a place of the table
 place-in : (read : tie.After-shared-slice-known3 Inv-told μ-left) →
     let turn = read .before .before in
     let given = turn .before .before .before .args in
-    (getD (given .entries .now) (turn .loop .i) 0 < given .places) × (given .places ≤ most-squares)
+    getD (given .entries .now) (turn .loop .i) 0 < given .places
 place-in read =
     let test = read .before in
     let turn = test .before in
     let start = turn .before .before .before in
-    (start .pre .4 (turn .loop .i) (test .loop-test .taken), start .pre .1)
+    start .pre .4 (turn .loop .i) (test .loop-test .taken)
 
 loop-holds : tie.Need-loop-holds Inv-told μ-left
 loop-holds c = (omega arith, λ i l. absurd (omega arith))
@@ -54,7 +53,6 @@ add-word-at-2 c =
 
 word-at-requires : tie.Need-word-at-requires Inv-told μ-left
 word-at-requires c κs =
-    let room = c .before .before .before .before .before .pre .0 in
     let place = place-in c in
     omega arith
 
@@ -68,20 +66,15 @@ returns c =
 loop-again : tie.Need-loop-again Inv-told μ-left
 loop-again c =
     let looked = c .before in
-    let test = looked .before .before in
-    let turn = test .before in
-    let given = turn .before .before .before .args in
-    let more = test .loop-test .taken in (
+    let turn = looked .before .before .before in
+    let given = turn .before .before .before .args in (
       omega arith,
       λ j l. between-more (λ i. Told true (words-of (given .file .now)) (given .first + i) (getD (given .entries .now) i 0)) 0 (turn .loop .i)
           (λ i z m. turn .loop .inv .1 i m) (sym (looked .word-at .ensures) ∙ c .if1 .left) j (omega arith) l,
     )
 
 returns-2 : tie.Need-returns-2 Inv-told μ-left
-returns-2 c =
-    let turn = c .before in
-    let last = c .loop-test .left in
-    grants (λ i l. turn .loop .inv .1 i (omega arith))
+returns-2 c = grants (λ i l. c .before .loop .inv .1 i (omega arith))
 
 pub numbers-held-spec : {M : Type 1} → statement M
 numbers-held-spec =

@@ -24,39 +24,22 @@ loop-holds : tie.Need-loop-holds Inv-copied μ-left
 loop-holds c = (omega arith, c .blocks-for .ensures, refl, λ p l. absurd (omega arith))
 
 sub-lesser : tie.Need-sub-lesser Inv-copied μ-left
-sub-lesser c =
-    let is-blocks = c .before .loop .inv .1 in
-    omega arith
+sub-lesser c = omega arith
 
 copy-words-requires : tie.Need-copy-words-requires Inv-copied μ-left
-copy-words-requires c κs =
-    let counted = c .before in
-    let test = counted .before in
-    let turn = test .before in
-    let start = turn .before .before .before .before in
-    let is-blocks = turn .loop .inv .1 in
-    let same = turn .loop .inv .2 in
-    let is-used = counted .lesser .ensures in
-    let more = test .loop-test .taken in
-    let room = start .pre .0 in
-    let size = start .pre .1 in
-    (omega arith, omega arith)
+copy-words-requires c κs = (omega arith, omega arith)
 
 loop-again : tie.Need-loop-again Inv-copied μ-left
 loop-again c =
     let copied = c .before .before in
     let counted = copied .before .before in
-    let test = counted .before in
-    let turn = test .before in
+    let turn = counted .before .before in
     let start = turn .before .before .before .before in
     let given = start .args in
-    let is-blocks = turn .loop .inv .1 in
     let same = turn .loop .inv .2 in
-    let more = test .loop-test .taken in
-    let room = start .pre .0 in
     let all = words-length (given .file .now) in (
       omega arith,
-      is-blocks,
+      turn .loop .inv .1,
       copied .copy-words .kept .1 .1 .0 ∙ same,
       copied-more (words-of (given .file .now)) (turn .loop .table) (given .places) (turn .loop .b) (counted .lesser .result) (same ∙ start .pre .1)
           (counted .lesser .ensures) (omega arith) (omega arith) (turn .loop .inv .3) (copied .copy-words .ensures),
@@ -70,8 +53,6 @@ returns c =
     let turn = c .before in
     let start = turn .before .before .before .before in
     let given = start .args in
-    let is-blocks = turn .loop .inv .1 in
-    let last = c .loop-test .left in
     copied-all (words-of (given .file .now)) (turn .loop .table) (given .places) (turn .loop .inv .2 ∙ start .pre .1)
     (λ p l. turn .loop .inv .3 p (omega arith) l)
 

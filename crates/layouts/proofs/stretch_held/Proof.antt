@@ -45,7 +45,6 @@ stretch-requires : tie.Need-stretch-requires
 stretch-requires c κs =
     let start = c .before .before .before in
     let t = start .pre .0 in
-    let room = start .pre .3 in
     let long = length-take-le (start .args .m) (start .args .buffer .now) (start .pre .4) in
     (t .w-least, t .w-most, t .h-least, t .h-most, omega arith)
 

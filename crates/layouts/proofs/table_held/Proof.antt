@@ -30,9 +30,7 @@ stretch-tells : (held : tie.After-stretch-held Inv-right-so-far μ-left) →
 stretch-tells held = held .stretch-held .ensures
 
 mul-places : tie.Need-mul-places Inv-right-so-far μ-left
-mul-places c =
-    let few = c .before .before .pre .0 .squares-most in
-    omega arith
+mul-places c = omega arith
 
 loop-holds : tie.Need-loop-holds Inv-right-so-far μ-left
 loop-holds c = (omega arith, (λ l. refl), refl, λ i l. absurd (omega arith))
@@ -46,38 +44,24 @@ stretch-held-requires c κs =
     let test = counted .before in
     let turn = test .before in
     let start = turn .before .before .before in
-    let is-m = counted .lesser .ensures in
     let more = test .loop-test .taken in
-    let size = turn .loop .inv .2 in
     (start .pre .0, start .pre .1, turn .loop .inv .1 more, omega arith, omega arith)
 
 returns : tie.Need-returns Inv-right-so-far μ-left
 returns c =
     let held = c .before .before in
     let counted = held .before .before in
-    let test = counted .before in
-    let turn = test .before in
+    let turn = counted .before .before in
     let given = turn .before .before .before .args in
-    let is-m = counted .lesser .ensures in
-    let more = test .loop-test .taken in
     refuses (λ right. said-no (stretch-tells held) (c .if1 .taken)
     (right-part (given .by-square) (words-of (given .file .now)) (given .area .w) (given .area .h) (turn .loop .at) (counted .lesser .result)
     (omega arith) right))
 
 add-at : tie.Need-add-at Inv-right-so-far μ-left
-add-at c =
-    let counted = c .before .before .before .before in
-    let start = counted .before .before .before .before .before in
-    let is-m = counted .lesser .ensures in
-    let few = start .pre .0 .squares-most in
-    omega arith
+add-at c = omega arith
 
 loop-less : tie.Need-loop-less Inv-right-so-far μ-left
-loop-less c =
-    let counted = c .before .before .before .before in
-    let is-m = counted .lesser .ensures in
-    let more = counted .before .loop-test .taken in
-    omega arith
+loop-less c = omega arith
 
 loop-again : tie.Need-loop-again Inv-right-so-far μ-left
 loop-again c =
@@ -86,7 +70,6 @@ loop-again c =
     let test = counted .before in
     let turn = test .before in
     let given = turn .before .before .before .args in
-    let is-m = counted .lesser .ensures in
     let more = test .loop-test .taken in
     let begins = turn .loop .inv .1 more in (
       omega arith,
@@ -102,8 +85,6 @@ returns-2 c =
     let given = turn .before .before .before .args in
     let w = given .area .w in
     let h = given .area .h in
-    let most = turn .loop .inv .0 in
-    let last = c .loop-test .left in
     let all : turn .loop .at ≡ w * h = omega arith in
     grants (subst (λ (k : ℕ). Right-told (given .by-square) (words-of (given .file .now)) w h k) all (turn .loop .inv .3))
 

@@ -23,33 +23,18 @@ unfolding packed
 loop-holds c = (omega arith, c .blocks-for .ensures, refl, refl)
 
 sub-lesser : tie.Need-sub-lesser Inv-written μ-left
-sub-lesser c =
-    let is-blocks = c .before .loop .inv .1 in
-    omega arith
+sub-lesser c = omega arith
 
 write-block-requires : tie.Need-write-block-requires Inv-written μ-left
-write-block-requires c κs =
-    let counted = c .before in
-    let test = counted .before in
-    let turn = test .before in
-    let start = turn .before .before .before .before in
-    let is-blocks = turn .loop .inv .1 in
-    let same = turn .loop .inv .2 in
-    let is-used = counted .lesser .ensures in
-    let more = test .loop-test .taken in
-    let size = start .pre .0 in
-    let places = start .pre .1 in
-    (omega arith, omega arith, omega arith)
+write-block-requires c κs = (omega arith, omega arith, omega arith)
 
 loop-again : tie.Need-loop-again Inv-written μ-left
 loop-again c =
     let written = c .before .before in
     let counted = written .before .before in
-    let test = counted .before in
-    let turn = test .before in
+    let turn = counted .before .before in
     let start = turn .before .before .before .before in
-    let given = start .args in
-    let more = test .loop-test .taken in (
+    let given = start .args in (
       omega arith,
       turn .loop .inv .1,
       written .write-block .kept .0 ∙ turn .loop .inv .2,
@@ -64,9 +49,6 @@ returns : tie.Need-returns Inv-written μ-left
 returns c =
     let turn = c .before in
     let given = turn .before .before .before .before .args in
-    let most = turn .loop .inv .0 in
-    let is-blocks = turn .loop .inv .1 in
-    let last = c .loop-test .left in
     let all : turn .loop .b ≡ table-blocks (given .places) = omega arith in
     turn .loop .inv .3 ∙ ap (λ (n : ℕ). sets (words-of (given .file .now)) 128 (packed n (given .table .now))) all
 
