@@ -69,7 +69,8 @@ read-table-requires : tie.Need-read-table-requires
 read-table-requires c κs =
     let card-passed = c .before .before in
     let judged = card-passed .before in
-    let start = judged .before .before .before .before .before .before .before in
+    let checks-passed = judged .before .before .before in
+    let start = checks-passed .before .before .before .before in
     let given = start .args in (
       card-room (given .area .w) (given .area .h) (start .pre .0) (given .kind) (given .file .now) (judged .is-card .ensures .0 (judged-so card-passed)),
       start .pre .1,
