@@ -54,33 +54,41 @@ fn round(card: Card) -> (Vec<u32>, Vec<u8>) {
     (table, file)
 }
 
+// A reader told this refuses the file so. It leaves the table as it was, which holds none of the file's numbers.
+#[track_caller]
+fn refused(told: Card, file: &[u8], due: (u32, u64), what: &str) {
+    let mut table = vec![UNTOUCHED; told.squares()];
+    assert_eq!(read(told, file, &mut table), due, "a reader told {told:?} of {what}");
+    assert!(table.iter().all(|place| *place == UNTOUCHED), "the table after a refused reader told {told:?} of {what}");
+}
+
 // A card whole: as long as it is told to be, round in either sense, and written over a card of the other kind. Told the other kind, or the area turned, it
 // is 15; only a writer cannot tell the kinds of an area whose two tables are one.
 fn whole(card: Card) {
-    let (mut table, file) = round(card);
+    let (table, file) = round(card);
     assert_eq!(independent::card_length(card.w.into(), card.h.into()), Ok(vec![file.len() as i64]), "how long {card:?} is");
-    let (right, other) = (table.clone(), card.other_kind());
+    let other = card.other_kind();
     let mut over = other.file();
     assert_eq!(write(card, &table, &mut over), 0, "a writer of {card:?} over another card");
     assert!(over == file, "what the writer of {card:?} wrote over another card");
-    let refusal = if other.table() == table { 0 } else { 15 };
-    assert_eq!(write(other, &table, &mut over), refusal, "a writer told {other:?} with the other kind's table");
-    assert_eq!(read(other, &file, &mut table), (15, 0), "a reader told {other:?} of the other kind's card");
+    let mut target = vec![OLD; file.len()];
+    let (refusal, after) = if other.table() == table { (0, other.file()) } else { (15, target.clone()) };
+    assert_eq!(write(other, &table, &mut target), refusal, "a writer told {other:?} with the other kind's table");
+    assert!(target == after, "the file after a writer told {other:?} with the other kind's table");
+    refused(other, &file, (15, 0), "the other kind's card");
     if card.w != card.h {
-        assert_eq!(read(card.turned(), &file, &mut table), (15, 0), "a reader told {:?} of the turned area's card", card.turned());
+        refused(card.turned(), &file, (15, 0), "the turned area's card");
     }
-    assert!(table == right, "the table after refused readers of {card:?}");
 }
 
 // Some bytes of a card changed, each alone: 14 with its own block. Some words of it changed, each alone and with the check put right: 15.
 fn spoilt(random: &mut Random, card: Card, rounds: usize) {
     let (mut file, mut words) = (card.file(), card.words());
-    let mut table = vec![UNTOUCHED; card.squares()];
     for _ in 0..rounds {
         let at = random.below(file.len() as u64) as usize;
         let change = 1 + random.below(255) as u8;
         file[at] ^= change;
-        assert_eq!(read(card, &file, &mut table), (14, (at / BLOCK_BYTES) as u64), "byte {at} of {card:?} changed by {change}");
+        refused(card, &file, (14, (at / BLOCK_BYTES) as u64), &format!("its card with byte {at} changed by {change}"));
         file[at] ^= change;
         let word = random.below(words.len() as u64) as usize;
         if word % BLOCK_WORDS == BLOCK_WORDS - 1 {
@@ -91,10 +99,9 @@ fn spoilt(random: &mut Random, card: Card, rounds: usize) {
         let (due, sum) = (words[word], words[check]);
         words[word] = due.wrapping_add(change);
         words[check] = sum.wrapping_add(change);
-        assert_eq!(read(card, &little_endian(&words), &mut table), (15, 0), "word {word} of {card:?} changed by {change}, and the check with it");
+        refused(card, &little_endian(&words), (15, 0), &format!("its card with word {word} changed by {change}, and the check with it"));
         (words[word], words[check]) = (due, sum);
     }
-    assert!(table.iter().all(|place| *place == UNTOUCHED), "the table after refused readers of {card:?}");
 }
 
 // Areas of about one, two and three blocks of table, thin ones, random ones up to 100,000 squares, and the largest.
@@ -115,24 +122,24 @@ fn sizes(random: &mut Random) -> usize {
         whole(card);
         spoilt(random, card, 20);
     }
-    let limit = [of_area(4096, 4096), of_area(65535, 256)].concat();
-    for card in &limit[..3] {
-        largest(random, *card);
+    let limit = [(4096, 4096), (65535, 256)];
+    for card in limit.into_iter().flat_map(|(w, h)| of_area(w, h)) {
+        largest(random, card);
     }
-    areas.len() + 2
+    areas.len() + limit.len()
 }
 
 // One of the largest cards, written and read, and refused for its last byte and for two exchanged words of a block, which no check can tell.
 fn largest(random: &mut Random, card: Card) {
-    let (mut table, mut file) = round(card);
+    let (_, mut file) = round(card);
     let last = file.len() - 1;
     file[last] ^= 1;
-    assert_eq!(read(card, &file, &mut table), (14, (last / BLOCK_BYTES) as u64), "a reader of {card:?} with its last byte changed");
+    refused(card, &file, (14, (last / BLOCK_BYTES) as u64), "its card with the last byte changed");
     file[last] ^= 1;
     let block = BLOCK_BYTES * (1 + random.below((file.len() / BLOCK_BYTES - 2) as u64) as usize);
     let word = block + 4 * random.below(125) as usize;
     file[word..word + 8].rotate_left(4);
-    assert_eq!(read(card, &file, &mut table), (15, 0), "a reader of {card:?} with two words exchanged");
+    refused(card, &file, (15, 0), "its card with two words exchanged");
 }
 
 fn main() {

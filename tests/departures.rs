@@ -115,6 +115,9 @@ fn each_word(card: Card) -> u64 {
     calls
 }
 
+// How many words of the table its blocks have where they are put together otherwise.
+const ROOMS: [usize; 4] = [1, 5, 63, 125];
+
 // The card's blocks and words put together otherwise, with every check right.
 fn put_otherwise(card: Card) -> Vec<Vec<u8>> {
     let (head, table) = (card.head(), card.table());
@@ -146,7 +149,7 @@ fn put_otherwise(card: Card) -> Vec<Vec<u8>> {
         altered(card, |words| back(words)),
         altered(card, |words| words.reverse()),
     ];
-    for room in [1, 5, 63, 125] {
+    for room in ROOMS {
         let (first, rest) = table.split_at(room.min(table.len()));
         all.push(blocks(&table.chunks(room).collect::<Vec<_>>()));
         all.push(blocks(&[&[first], &rest.chunks(COUNT).collect::<Vec<_>>()[..]].concat()));
@@ -155,8 +158,8 @@ fn put_otherwise(card: Card) -> Vec<Vec<u8>> {
     all
 }
 
-// Files that depart from the layout in how their blocks are made up, and exchanged blocks: all are 15 but those that come out as the card. With every word the
-// other way round, the checks too, it is 14.
+// Files that depart from the layout in how their blocks are made up, and exchanged blocks: all are 15 but those that come out as the card, which are the two of
+// each room that holds the whole table. With every word the other way round, the checks too, it is 14.
 fn departures(card: Card) -> u64 {
     let file = card.file();
     let mut all = put_otherwise(card);
@@ -165,7 +168,10 @@ fn departures(card: Card) -> u64 {
         order.swap(i, j);
         all.push(order.concat());
     }
+    let made = all.len();
     all.retain(|other| *other != file);
+    let roomy = ROOMS.into_iter().filter(|room| *room >= card.squares()).count();
+    assert_eq!(made - all.len(), 2 * roomy, "how many departures of {card:?} come out as the card");
     for (i, other) in all.iter().enumerate() {
         assert_eq!(reads(card, other, card.squares()), (15, 0), "departure {i} of {card:?}");
     }
@@ -372,9 +378,10 @@ fn small_card(random: &mut Random) -> Card {
     Card { w, h, kind: random.of(&KINDS) }
 }
 
-// Hostile files and tables at random. A reader takes a file exactly if it is the card that it was told of.
+// Hostile files and tables at random. A reader takes a file exactly if it is the card that it was told of. Every answer comes in one round of
+// a hundred or oftener.
 fn hostile(random: &mut Random, rounds: u64) -> u64 {
-    let mut taken = 0;
+    let (mut of_readers, mut of_writers) = ([0; 16], [0; 16]);
     for _ in 0..rounds {
         let card = small_card(random);
         let file = hostile_file(random, card);
@@ -393,15 +400,18 @@ fn hostile(random: &mut Random, rounds: u64) -> u64 {
         let (refusal, _) = reads(told, &file, places);
         let accepted = independent::accepted(told.w.into(), told.h.into()).is_ok() && told.squares() == places && KINDS.contains(&told.kind);
         assert_eq!(refusal == 0, accepted && file == told.file(), "{told:?}, a file of {} bytes", file.len());
-        taken += u64::from(refusal == 0);
+        of_readers[refusal as usize] += 1;
         let mut table = if places == card.squares() { card.table() } else { vec![0; places] };
         if places > 0 && random.below(3) == 0 {
             table[random.below(places as u64) as usize] ^= random.of(&[0, 1, 2, 1 << 31]);
         }
         let bytes = if random.below(8) == 0 || told.squares() > 1_000 { file.len() } else { 512 + 512 * told.squares().div_ceil(COUNT) };
-        writes(told, &table, bytes);
+        of_writers[writes(told, &table, bytes) as usize] += 1;
     }
-    taken
+    for (answers, due) in [(of_readers, &[0, 1, 4, 13, 14, 15][..]), (of_writers, &[0, 1, 4, 13, 15])] {
+        assert!(due.iter().all(|answer: &usize| answers[*answer] >= rounds / 100), "how often each of {due:?} came, from 0 to 15: {answers:?}");
+    }
+    of_readers[0]
 }
 
 fn main() {

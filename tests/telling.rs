@@ -159,6 +159,9 @@ fn card_in_short(w: i64, h: i64, kind: i64) -> Vec<i64> {
     words.chunks(independent::BLOCK_WORDS).flat_map(short).map(i64::from).collect()
 }
 
+// How many worked cards there are: both kinds of four areas. One more or fewer has to be put here, so that none is passed over.
+const WORKED_CARDS: usize = 8;
+
 // Compares every worked card, `cards W H KIND (words)`, wherever it stands in the file, and says how many there are.
 fn compared_cards(path: &str) -> usize {
     let text = fs::read_to_string(path).expect("the worked cards can be read");
@@ -174,7 +177,7 @@ fn compared_cards(path: &str) -> usize {
         assert!(worked == card_in_short(w, h, kind), "{path}: otherwise by the independent program: the card of {w} by {h}, kind {kind}");
         count += 1;
     }
-    assert!(count >= 5, "{path}: only {count} worked cards were found");
+    assert!(count == WORKED_CARDS, "{path}: {count} worked cards were found, and not {WORKED_CARDS}");
     count
 }
 

@@ -64,6 +64,9 @@ static int are_numbers(const char *call, int from, int count) {
     return 1;
 }
 
+/* Fills what is lent to be written with a word that is never due, so that nothing that a call before left there passes for an answer. */
+static void spoil(void *room, size_t bytes) { memset(room, 0xA7, bytes); }
+
 static void say_all(uint32_t refusal, const uint32_t *values, size_t count) {
     if (refusal != UVALINDA_ANSWERED) {
         say("refused %u", refusal);
@@ -78,6 +81,7 @@ static void say_all(uint32_t refusal, const uint32_t *values, size_t count) {
 static void window(int at, size_t places, int tell_count) {
     static uint32_t runs[PLACES];
     uint32_t count[UVALINDA_RUNS_PLACES];
+    spoil(runs, sizeof runs);
     uint32_t refusal = uvalinda_runs_for_window(u(at), u(at + 1), s(at + 2), s(at + 3), s(at + 4), s(at + 5), s(at + 6), s(at + 7), runs, places, count,
                                                 UVALINDA_RUNS_PLACES);
     say_all(refusal, runs, refusal == UVALINDA_ANSWERED ? 2 * (size_t)count[0] : 0);
@@ -107,6 +111,7 @@ static void fill(int by_square) {
     static uint32_t table[PLACES];
     uint64_t blocks[UVALINDA_FILL_PLACES];
     size_t places = u(3);
+    spoil(table, sizeof table);
     uint32_t refusal = by_square ? uvalinda_fill_by_square(u(1), u(2), table, places, blocks, UVALINDA_FILL_PLACES)
                                  : uvalinda_fill_by_number(u(1), u(2), table, places, blocks, UVALINDA_FILL_PLACES);
     if (refusal == UVALINDA_ANSWERED) {
@@ -185,7 +190,7 @@ static void write_card(int count) {
     for (int i = 5; i < count; i++) {
         table[i - 5] = u(i);
     }
-    memset(file, 7, sizeof file);
+    spoil(file, sizeof file);
     uint32_t refusal = uvalinda_write_card(u(1), u(2), u(3), table, (size_t)(count - 5), file, bytes);
     refusal == UVALINDA_ANSWERED ? say_file(file, bytes) : say("refused %u", refusal);
 }
@@ -195,6 +200,7 @@ static void read_card(int count) {
     static uint8_t file[BYTES];
     uint64_t block[UVALINDA_READ_PLACES];
     size_t bytes = read_file(5, count, file), places = u(4);
+    spoil(table, sizeof table);
     uint32_t refusal = uvalinda_read_card(u(1), u(2), u(3), file, bytes, table, places, block, UVALINDA_READ_PLACES);
     say_all(refusal, table, places);
     if (refusal == UVALINDA_BAD_CHECK) {

@@ -291,9 +291,9 @@ fn cards() {
         print_read(told, 12, &changed(3, kind, true));
         print_read(told, 12, &changed(3, kind, false));
     }
-    for (w, h) in REFUSED.into_iter().step_by(2) {
-        print_write([w, h, 3], 0, &[0, 1, 2]);
-        print_read([w, h, 3], 3, &file[..516]);
+    for ((w, h), kind) in REFUSED.into_iter().zip([3, 1].into_iter().cycle()) {
+        print_write([w, h, kind], 0, &[0, 1, 2]);
+        print_read([w, h, kind], 3, &file[..516]);
     }
     for places in [0, 11, 13] {
         print_read(told, places, &changed(0, 2, false));
