@@ -20,7 +20,8 @@ use Rattle.cards.specs.declared.WriteAnswer.the-variants as Write
 use Rattle.cards.specs.declared.ReadAnswer.the-variants as Read
 use Rattle.cards.specs.Cards.{write-guards, read-guards, write, read, measure, length-figures, write-figures, read-figures}
 use Rattle.cards.specs.Cards.{write-at, file-after-at, read-at, table-after-at, measure-at}
-use Rattle.cards.proofs.Refused.{Kind, Fits, First-bad, write-answered, read-answered, read-refused-14, block-told, no-block-told, measure-answered, measured}
+use Rattle.cards.proofs.Refused.{Kind, Fits, First-bad, write-answered, read-answered, read-refused-14, block-told, no-block-told}
+use Rattle.cards.proofs.Refused.{measure-answered, measured}
 
 -- figures with 0 are those of an answered call
 module _ (w h kind : ℕ) (table file : List ℕ) where

@@ -330,11 +330,12 @@ measure-gives w h = by (lengths-accepted w h) (squares-accepted (w * h))
 pub write-gives : (w h kind : ℕ) (table file : List ℕ) → Gives-written (write w h kind table file .refusal)
 unfolding write
 write-gives w h kind table file =
-    by (lengths-accepted w h) (squares-accepted (w * h)) (eqb (length table) (w * h)) (eqb (length file) (card-bytes w h)) (not (some-deep w h)) (kind-known kind)
-    (same-numbers table (right-table w h kind)) (write-never-9 w h kind table file)
+    by (lengths-accepted w h) (squares-accepted (w * h)) (eqb (length table) (w * h)) (eqb (length file) (card-bytes w h)) (not (some-deep w h))
+    (kind-known kind) (same-numbers table (right-table w h kind)) (write-never-9 w h kind table file)
   where
     by : (a b c d e f g : Bool) →
-        let r = guarded (a else AreaLimit ∷ b else TooManySquares ∷ c else TableLength ∷ d else TableLength ∷ e else TooDeep ∷ f else Departure ∷ g else Departure ∷ [])
+        let r =
+        guarded (a else AreaLimit ∷ b else TooManySquares ∷ c else TableLength ∷ d else TableLength ∷ e else TooDeep ∷ f else Departure ∷ g else Departure ∷ [])
         0 [] .refusal in
         (r ≡ 9 → ⊥) → Gives-written r
     by true true true true true true true deep = inl refl

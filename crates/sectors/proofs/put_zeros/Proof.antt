@@ -1,5 +1,5 @@
--- `sectors::put_zeros` meets its contract. The invariant: i zeros are entered; the measure is what is left of them. A word that is zero is entered without being
--- written.
+-- `sectors::put_zeros` meets its contract. The invariant: i zeros are entered; the measure is what is left of them. A word that is zero is entered without
+-- being written.
 use mathlib.Core.Logic.{⊎-elim}
 use mathlib.Core.Path.{_≡_, refl, sym, ap, _∙_}
 use Prim.Native.Nat.{ℕ, _+_, _-_, _≤_}
