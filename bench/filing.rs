@@ -33,9 +33,14 @@ fn is_framed(block: &Block, used: usize) -> bool {
     words(&block[4 * used..504]).all(|word| word == 0) && word(block, 126) as usize == used
 }
 
-// Whether a block's content is that of a slice: counted, since a loop that may end early is not taken many words at a time.
+// How many pairs are alike, in 32 bits: a loop that may end early is not taken many words at a time, and a count of 64 bits takes fewer.
+fn alike(pairs: impl Iterator<Item = (u32, u32)>) -> usize {
+    pairs.map(|(one, other)| (one == other) as u32).sum::<u32>() as usize
+}
+
+// Whether a block's content is that of a slice.
 fn has(block: &Block, content: &[u32]) -> bool {
-    words(&block[..504]).zip(content).filter(|(word, due)| word == *due).count() == content.len()
+    alike(words(&block[..504]).zip(content.iter().copied())) == content.len()
 }
 
 // The squares of a straight block that have their numbers in the stretch from `first` on.
@@ -91,14 +96,14 @@ fn straight_right<const BY_SQUARE: bool>(blocks: &[u8], number: u32, place: u32,
     })
 }
 
-// Whether n places from `to` on are images of those from `from` on, in pieces that lie in one block each: counted, as above.
+// Whether n places from `to` on are images of those from `from` on, in pieces that lie in one block each.
 fn again(blocks: &[u8], from: u32, to: u32, n: u32, constant: u32, opposite: bool) -> bool {
     let (mut from, mut to, end) = (from as usize, to as usize, (to + n) as usize);
     while to < end {
         let piece = (126 - from % 126).min(126 - to % 126).min(end - to);
         let earlier = words(&blocks[4 * word_of(from)..][..4 * piece]);
         let later = words(&blocks[4 * word_of(to)..][..4 * piece]);
-        if later.zip(earlier).filter(|(word, source)| *word == image(*source, constant, opposite)).count() != piece {
+        if alike(later.zip(earlier.map(|source| image(source, constant, opposite)))) != piece {
             return false;
         }
         (from, to) = (from + piece, to + piece);
