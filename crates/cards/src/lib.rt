@@ -1,4 +1,6 @@
 // Cards: how long an area's card is, writing its table as one, and reading one into a table.
+#![tactic(auto)]
+
 ghost use Rattle.std.specs.Prelude.{true, ◌≡◌, ◌*◌, length};
 ghost use Rattle.terms.specs.Terms.{accepted};
 ghost use Rattle.terms.specs.Telling.{Tells};
@@ -17,21 +19,21 @@ const BY_NUMBER: u32 = 1;
 const BY_SQUARE: u32 = 2;
 
 // How many bytes an area's card has.
-#[derive(Drop)]
+#[derive(Clone, Copy)]
 pub enum LengthAnswer {
     Bytes { bytes: u64 },
     Refused(Refusal),
 }
 
 // What writing a card answers.
-#[derive(Drop)]
+#[derive(Clone, Copy)]
 pub enum WriteAnswer {
     Written,
     Refused(Refusal),
 }
 
 // What reading a card answers. The block is that of a bad check, and 0 for every other refusal.
-#[derive(Drop)]
+#[derive(Clone, Copy)]
 pub enum ReadAnswer {
     Read,
     Refused { refusal: Refusal, block: u64 },

@@ -1,4 +1,6 @@
 // Checks a block of the division in a table: the walk is that of a fill, and hands on the least wrong place where a fill enters squares.
+#![tactic(auto)]
+
 ghost use Rattle.std.specs.Prelude.{false, cond, ◌≡◌, leb, length};
 ghost use Rattle.division.specs.declared.Choice.TheVariants.{LongCut, UCut};
 ghost use Rattle.division.specs.Division.{choice};

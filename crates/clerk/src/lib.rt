@@ -1,4 +1,6 @@
 // The order clerk: the area in force; a line in, a reply out.
+#![tactic(auto)]
+
 ghost use Rattle.std.specs.Prelude.{[], ◌∷◌, ◌≡◌, ◌*◌, pos};
 ghost use Rattle.terms.specs.Terms.{at_post, signed};
 ghost use Rattle.lines.specs.Lines.{begins_setting};
@@ -11,14 +13,14 @@ use lines::Request;
 use terms::{Admission, Area, Refusal};
 
 // The area in force with its origin, if there is one.
-#[derive(Drop)]
+#[derive(Clone, Copy)]
 pub enum Clerk {
     NoArea,
     InForce(Area),
 }
 
 // What a line is answered.
-#[derive(Drop)]
+#[derive(Clone, Copy)]
 pub enum Reply {
     AreaSet {
         w: u32,
@@ -44,7 +46,7 @@ pub enum Reply {
 }
 
 // The clerk after a line, and the reply to it.
-#[derive(Drop)]
+#[derive(Clone, Copy)]
 pub struct Handled {
     pub clerk: Clerk,
     pub reply: Reply,

@@ -1,4 +1,6 @@
 // A block of a table by number that repeats another one: copied from the table's own earlier places, or compared with them, in one straight loop.
+#![tactic(auto)]
+
 ghost use Rattle.std.specs.Prelude.{◌≡◌, ◌+◌, ◌≤◌, false, length};
 ghost use Rattle.terms.specs.Terms.{longest_side};
 ghost use Rattle.terms.specs.Telling.{Tells};

@@ -1,5 +1,7 @@
 // Single lookups: from a number to its square, from a square to its number, and the finish square. Squares are those of the site grid: signed, and counted from
 // the datum post.
+#![tactic(auto)]
+
 ghost use Rattle.std.specs.Prelude.{true, ◌&&◌, [], ◌∷◌, ◌≡◌, ◌-◌, ◌*◌, ◌≤◌, leb, ltb, pos, ◌+ℤ◌};
 ghost use Rattle.terms.specs.declared.Refusal.TheVariants.{TooDeep};
 ghost use Rattle.terms.specs.Terms.{longest_side, most_blocks, offset_accepted, accepted, grid_accepted};
@@ -17,21 +19,21 @@ use terms::{Admission, Area, Refusal};
 const MOST_BLOCKS: u32 = 64;
 
 // What a lookup of a number answers.
-#[derive(Drop)]
+#[derive(Clone, Copy)]
 pub enum SquareAnswer {
     Found { x: i32, y: i32, blocks: u32 },
     Refused(Refusal),
 }
 
 // What a lookup of a square answers.
-#[derive(Drop)]
+#[derive(Clone, Copy)]
 pub enum NumberAnswer {
     Found { number: u32, blocks: u32 },
     Refused(Refusal),
 }
 
 // What the finish square's call answers.
-#[derive(Drop)]
+#[derive(Clone, Copy)]
 pub enum FinishAnswer {
     Found { x: i32, y: i32 },
     Refused(Refusal),
@@ -115,7 +117,7 @@ pub fn square_to_number(area: Area, x: i32, y: i32) -> NumberAnswer
 }
 
 // A square counted from the area's own corner.
-#[derive(Drop)]
+#[derive(Clone, Copy)]
 struct OldSquare {
     x: u32,
     y: u32,

@@ -1,4 +1,6 @@
 // From a number of a block down to its square.
+#![tactic(auto)]
+
 ghost use Rattle.std.specs.Prelude.{◌≡◌, cond, ◌*◌, ◌<◌};
 ghost use Rattle.terms.specs.Terms.{longest_side};
 ghost use Rattle.division.specs.declared.Choice.TheVariants.{LongCut, UCut};
@@ -10,7 +12,7 @@ ghost use Rattle.descents.specs.Descents.{square_packed, held, square_unpacked, 
 use division::{Choice, Placed};
 
 // A square, and how many blocks of the division hold it.
-#[derive(Drop)]
+#[derive(Clone, Copy)]
 pub struct Held {
     pub x: u32,
     pub y: u32,
@@ -42,7 +44,7 @@ fn unpack_square(packed: u64) -> Held
 }
 
 // A part of a block, and a number in that part.
-#[derive(Drop)]
+#[derive(Clone, Copy)]
 struct Below {
     part: Placed,
     i: u32,

@@ -1,4 +1,6 @@
 // The desk: bytes in, in pieces of any size, and the replies to their lines out.
+#![tactic(auto)]
+
 ghost use Rattle.std.specs.Prelude.{◌≡◌, ◌+◌, ◌≤◌, length};
 ghost use Rattle.clerk.specs.Clerk.{after};
 ghost use Rattle.replies.specs.Text.{longest, Writes, if_room};
@@ -15,7 +17,7 @@ pub const KEPT: usize = 65;
 const LAST_ANSWERED: u32 = 65535;
 
 // Where the desk stands: the clerk, the number of the line that is begun or next, how many bytes of it are kept, and whether it is closed: no more is read.
-#[derive(Drop)]
+#[derive(Clone, Copy)]
 pub struct Desk {
     pub clerk: Clerk,
     pub line: u32,
@@ -24,7 +26,7 @@ pub struct Desk {
 }
 
 // The desk after a byte, and the place after what was written.
-#[derive(Drop)]
+#[derive(Clone, Copy)]
 struct Stepped {
     desk: Desk,
     at: usize,
@@ -76,7 +78,7 @@ fn keep(desk: Desk, kept: &mut [u8], b: u8) -> Desk
 }
 
 // The clerk after a line, and the place after the reply to it.
-#[derive(Drop)]
+#[derive(Clone, Copy)]
 struct Replied {
     clerk: Clerk,
     at: usize,
@@ -154,7 +156,7 @@ fn step(desk: Desk, kept: &mut [u8], b: u8, out: &mut [u8], at: usize) -> Steppe
 }
 
 // The desk after as many bytes of a chunk as there was room to answer, the next of them, and the place after what was written.
-#[derive(Drop)]
+#[derive(Clone, Copy)]
 pub struct Fed {
     pub desk: Desk,
     pub from: usize,

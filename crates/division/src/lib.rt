@@ -3,6 +3,8 @@
 // A walk holds a block in one of two forms. `Placed` has the start on the axes of run and side and two bits for the directions, for walks that
 // go from numbers to squares. `Spot` has no start and no direction: a square as (u, v), u along the run and v along the side, for walks that go
 // from squares to numbers. No length or coordinate is over 65,535.
+#![tactic(auto)]
+
 ghost use Rattle.std.specs.Prelude.{cond, ◌≡◌, ◌≤◌, ◌<◌, ltb};
 ghost use Rattle.terms.specs.Terms.{longest_side};
 ghost use Rattle.division.specs.declared.Choice.TheVariants.{LongCut, UCut};
@@ -11,7 +13,7 @@ ghost use Rattle.division.specs.Division.Inside.{Inside};
 ghost use Rattle.division.specs.Forms.{block, stepped_to, Steps, seen_in};
 
 // The choice rule's four cases.
-#[derive(Drop)]
+#[derive(Clone, Copy)]
 pub enum Choice {
     StraightRun,
     StraightSide,
@@ -64,7 +66,7 @@ pub fn stepped(at: u32, n: u32, back: bool) -> u32
 
 // A block where it stands: its start is `along` on the run's axis and `across` on the side's. The run is along y if it is turned, else along x;
 // both directions are negative if it goes back.
-#[derive(Drop)]
+#[derive(Clone, Copy)]
 pub struct Placed {
     pub along: u32,
     pub across: u32,
@@ -139,7 +141,7 @@ pub fn part_c(k: Placed) -> Placed
 }
 
 // A square of a block with lengths a and b: u along the run, v along the side.
-#[derive(Drop)]
+#[derive(Clone, Copy)]
 pub struct Spot {
     pub a: u32,
     pub b: u32,

@@ -4,6 +4,8 @@
 // A call that answers values takes a slice for them. It returns the refusal's number, 0 for none, and writes the values to the slice's first places, 0 each
 // where it is refused, but for the area in force that a line leaves, the number of runs that have no room and the block of a bad check. A slice that is too
 // short is left as it is, and 255 is returned, which is no refusal's number.
+#![tactic(auto)]
+
 ghost use Rattle.std.specs.Prelude.{[], ◌∷◌, ◌++◌, ◌≡◌, ◌≤◌, pos, length, take, drop};
 ghost use Rattle.terms.specs.Terms.{most_blocks};
 ghost use Rattle.clerk.specs.Clerk.{said};
@@ -385,7 +387,7 @@ pub extern "C" fn uvalinda_runs_for_window(
 }
 
 // A reply as four numbers: what kind it is, and its values.
-#[derive(Drop)]
+#[derive(Clone, Copy)]
 struct Told {
     kind: i64,
     a: i64,

@@ -1,4 +1,6 @@
 // The fields of a line: where each begins and ends, its bytes, and a reader that takes them one at a time, left to right.
+#![tactic(auto)]
+
 ghost use Rattle.std.specs.Prelude.{◌≡◌};
 ghost use Rattle.fields.specs.Reading.{field_at, piece, taken_of, three_read};
 
@@ -6,7 +8,7 @@ ghost use Rattle.fields.specs.Reading.{field_at, piece, taken_of, three_read};
 const NOWHERE: usize = 18446744073709551615;
 
 // Where a field's bytes begin and end, and where the next field begins: at a place that no line has if there is none.
-#[derive(Drop)]
+#[derive(Clone, Copy)]
 pub struct Field {
     start: usize,
     end: usize,
@@ -14,7 +16,7 @@ pub struct Field {
 }
 
 // The fields of a line that has two or three: no shape has fewer or more.
-#[derive(Drop)]
+#[derive(Clone, Copy)]
 pub enum Taken {
     Two { word: Field, a: Field },
     Three { word: Field, a: Field, b: Field },
@@ -87,7 +89,7 @@ fn taken_of(line: &[u8], a: Field, b: Field, c: Field) -> Taken
 }
 
 // A reader over a line: the line and a place in it.
-#[derive(Drop)]
+#[derive(Clone, Copy)]
 struct Reader<'a> {
     line: &'a [u8],
     at: usize,

@@ -1,4 +1,6 @@
 // Fills a block of the division into a table: the cuts hand their parts to each other, the leaves are below.
+#![tactic(auto)]
+
 ghost use Rattle.std.specs.Prelude.{◌≡◌, length};
 ghost use Rattle.division.specs.declared.Choice.TheVariants.{LongCut, UCut};
 ghost use Rattle.division.specs.Division.{choice, blocks};

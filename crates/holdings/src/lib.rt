@@ -1,6 +1,8 @@
 // Whether a file holds the right table by number: the walk is that of a check, over the file's words in place of a table. A small block of the division is
 // filled into a buffer and compared with the words; one that repeats another is compared with the words of the other. The file's own blocks, of 512 bytes,
 // have 126 places of the table each, and are called so.
+#![tactic(auto)]
+
 ghost use Rattle.std.specs.Prelude.{true, false, ◌≡◌, ◌+◌, ◌-◌, ◌*◌, ◌%◌, ◌≤◌, ◌<◌, min, length};
 ghost use Rattle.terms.specs.Terms.{Limits, past_32_bits};
 ghost use Rattle.terms.specs.Telling.{Tells};

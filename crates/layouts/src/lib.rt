@@ -1,4 +1,6 @@
 // A card's layout: whether a file is the card of an area's right table, a table written as a card, and a card's table copied out.
+#![tactic(auto)]
+
 ghost use Rattle.std.specs.Prelude.{true, false, cond, ◌∷◌, [], ◌≡◌, ◌+◌, ◌-◌, ◌*◌, ◌%◌, ◌≤◌, ◌<◌, min, eqb, length, take};
 ghost use Rattle.std.proofs.lemmas.List.Edits.{sets};
 ghost use Rattle.terms.specs.Terms.{most_squares, Limits};

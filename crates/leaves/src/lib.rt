@@ -1,4 +1,6 @@
 // The blocks that a walk over a table does not cut: straight ones, and those 2 wide and 2 or 3 deep, to which most squares of a large area belong.
+#![tactic(auto)]
+
 ghost use Rattle.std.specs.Prelude.{cond, ◌≡◌, ◌+◌, ◌≤◌, ◌<◌, length};
 ghost use Rattle.terms.specs.Terms.{longest_side, past_32_bits};
 ghost use Rattle.division.specs.declared.Choice.TheVariants.{StraightRun};
@@ -79,7 +81,7 @@ fn enter_two(table: &mut [u32], n: u32, p: u32, q: u32, by_square: bool)
 }
 
 // The places of two squares of a block 2 wide, side by side: one on its start's line, one a step along its run.
-#[derive(Drop)]
+#[derive(Clone, Copy)]
 struct Rung {
     near: u32,
     far: u32,
@@ -121,7 +123,7 @@ pub fn fill_leaf(table: &mut [u32], k: Placed, area: Area, at: u32, by_square: b
 }
 
 // A wrong place and the value due there.
-#[derive(Drop)]
+#[derive(Clone, Copy)]
 pub struct Wrong {
     pub place: u32,
     pub due: u32,

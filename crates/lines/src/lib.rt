@@ -1,4 +1,6 @@
 // What an order line asks: the shapes that it may have.
+#![tactic(auto)]
+
 mod requests;
 
 ghost use Rattle.std.specs.Prelude.{◌≡◌};
@@ -10,7 +12,7 @@ use terms::Refusal;
 const MOST_BYTES: usize = 64;
 
 // What a line asks.
-#[derive(Drop)]
+#[derive(Clone, Copy)]
 pub enum Request {
     SetArea { w: u32, h: u32 },
     SetOrigin { ox: i32, oy: i32 },

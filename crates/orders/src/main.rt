@@ -1,5 +1,7 @@
 // The program: it reads order lines from standard input, or from the form that its argument names, and writes a reply to each. It hands bytes to the desk
 // and writes the desk's text, and decides nothing. What fails is told in one line on standard error.
+#![tactic(auto)]
+
 ghost use Rattle.std.specs.Prelude.{true, ◌≡◌, ◌≤◌, ◌<◌, length};
 ghost use Rattle.replies.specs.Text.{longest};
 ghost use Rattle.desk.specs.Steps.{in_order};
@@ -39,7 +41,7 @@ fn serve(desk: Desk, kept: &mut [u8], chunk: &[u8], out: &mut [u8]) -> Desk
 
 // The desk after one read and the replies to it, and whether to go on: not at the end of the input, nor with a desk that is closed. A read that fails
 // closes the desk: what came of a line before it may be part of another number.
-#[derive(Drop)]
+#[derive(Clone, Copy)]
 struct Went {
     desk: Desk,
     more: bool,

@@ -1,6 +1,8 @@
 // The window as a block of the division sees it, and as the block's parts do; numbers taken up into runs; and the small blocks, which are not cut.
 //
 // A pane has no start and no direction, as a square in a search: u along the block's run, v along its side.
+#![tactic(auto)]
+
 ghost use Rattle.std.specs.Prelude.{[], ◌≡◌, ◌-◌, ◌≤◌, ◌<◌, min};
 ghost use Rattle.terms.specs.Terms.{longest_side};
 ghost use Rattle.division.specs.Division.{Part, First, Second, B, C};
@@ -8,7 +10,7 @@ ghost use Rattle.panes.specs.Panes.{pane_in, is_whole, tally, runs_in, joined_sc
 ghost use Rattle.panes.specs.Panes.{Walks, Leaf, Holds, Joins, MayJoin};
 
 // The squares of an a by b block with u from u0 on and below u1, and v from v0 on and below v1.
-#[derive(Drop)]
+#[derive(Clone, Copy)]
 pub struct Pane {
     pub a: u32,
     pub b: u32,
@@ -161,7 +163,7 @@ pub fn write(runs: &mut [u32], score: u64, p: u32, q: u32) -> u64
 }
 
 // The numbers from `from` on and below `to`; none where they are one.
-#[derive(Drop)]
+#[derive(Clone, Copy)]
 struct Stretch {
     from: u32,
     to: u32,

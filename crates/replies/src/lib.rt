@@ -1,4 +1,6 @@
 // Replies as text: written to a lent buffer, with the line's number.
+#![tactic(auto)]
+
 ghost use Rattle.std.specs.Prelude.{[], ◌∷◌, ◌++◌, ◌+◌, ◌*◌, ◌≤◌, ◌≡◌, leb, pos, length};
 ghost use Rattle.terms.specs.Terms.{in_signs};
 ghost use Rattle.clerk.specs.Clerk.{said};

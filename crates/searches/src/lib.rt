@@ -1,4 +1,6 @@
 // From a square of a block to its number.
+#![tactic(auto)]
+
 ghost use Rattle.std.specs.Prelude.{◌≡◌};
 ghost use Rattle.division.specs.declared.Choice.TheVariants.{LongCut, UCut};
 ghost use Rattle.division.specs.Division.{square, whole, choice, number_of, blocks_holding};
@@ -7,7 +9,7 @@ ghost use Rattle.searches.specs.Searches.{number_packed, numbered, number_unpack
 use division::{Choice, Spot};
 
 // A square's number, and how many blocks of the division hold the square.
-#[derive(Drop)]
+#[derive(Clone, Copy)]
 pub struct Numbered {
     pub number: u32,
     pub blocks: u32,
@@ -33,7 +35,7 @@ fn unpack_number(packed: u64) -> Numbered
 }
 
 // A square as a part has it, and how many numbers come before that part.
-#[derive(Drop)]
+#[derive(Clone, Copy)]
 struct Below {
     spot: Spot,
     before: u32,

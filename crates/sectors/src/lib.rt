@@ -1,4 +1,6 @@
 // Blocks of 512 bytes: words in bytes, a block's content with its count and its check, and the first block whose check is bad.
+#![tactic(auto)]
+
 ghost use Rattle.std.specs.Prelude.{◌≡◌, ◌+◌, ◌*◌, ◌≤◌, length, get_or, replicate, set};
 ghost use Rattle.std.proofs.lemmas.List.Edits.{sets};
 ghost use Rattle.terms.specs.Telling.{Tells};

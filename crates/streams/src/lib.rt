@@ -1,4 +1,6 @@
 // Reading and writing that lose nothing: a call that was interrupted, or that would have to wait, is tried again after a pause.
+#![tactic(auto)]
+
 mod waits;
 
 ghost use Rattle.std.specs.Prelude.{◌≤◌, length};
@@ -13,7 +15,7 @@ fn passes(error: i32) -> bool {
 }
 
 // How many bytes a call moved, and whether it failed for good.
-#[derive(Drop)]
+#[derive(Clone, Copy)]
 pub struct Moved {
     pub count: usize,
     pub failed: bool,

@@ -1,5 +1,7 @@
 // A stretch of the table by number: the entries of successive numbers, with no table at hand. The walk is that of a fill, and leaves out blocks that lie wholly
 // before the stretch or behind it.
+#![tactic(auto)]
+
 ghost use Rattle.std.specs.Prelude.{◌≡◌, ◌+◌, ◌-◌, ◌*◌, ◌≤◌, min, length};
 ghost use Rattle.terms.specs.Terms.{longest_side};
 ghost use Rattle.division.specs.declared.Choice.TheVariants.{StraightRun, LongCut, UCut};

@@ -1,4 +1,6 @@
 // Filling and checking tables for a whole area.
+#![tactic(auto)]
+
 ghost use Rattle.std.specs.Prelude.{true, ◌≡◌, ◌*◌, length};
 ghost use Rattle.terms.specs.Terms.{accepted, answered};
 ghost use Rattle.terms.specs.Guards.{admitted};
@@ -8,14 +10,14 @@ ghost use Rattle.tables.specs.Tables.{check, check_figures, fill_at, filled_at, 
 use terms::{Admission, Area, Refusal};
 
 // What a fill answers.
-#[derive(Drop)]
+#[derive(Clone, Copy)]
 pub enum FillAnswer {
     Filled { blocks: u64 },
     Refused(Refusal),
 }
 
 // What a check answers.
-#[derive(Drop)]
+#[derive(Clone, Copy)]
 pub enum CheckAnswer {
     Right,
     Wrong { place: u32, due: u32 },

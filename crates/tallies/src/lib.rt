@@ -1,6 +1,8 @@
 // The walks over a window's pane, part by part: one counts its runs of numbers, one writes them.
 //
 // A pane with no square is left out, and one that is its whole block is one stretch of numbers, so that only blocks on the window's border are cut.
+#![tactic(auto)]
+
 ghost use Rattle.std.specs.Prelude.{[], ◌≡◌, ◌*◌, ◌≤◌, length};
 ghost use Rattle.division.specs.declared.Choice.TheVariants.{LongCut, UCut};
 ghost use Rattle.division.specs.Division.{choice};

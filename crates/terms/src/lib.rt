@@ -1,4 +1,6 @@
 // What every call shares: the area with its origin, the refusals by name and number, and the guards that a call goes through in turn.
+#![tactic(auto)]
+
 ghost use Rattle.std.specs.Prelude.{◌≡◌, ◌*◌, ◌-ℤ◌};
 ghost use Rattle.terms.specs.Terms.{length_accepted, lengths_accepted, squares_accepted, refusal_number};
 ghost use Rattle.terms.specs.Terms.{offset_accepted, origin_accepted, at_post, distance_of};
@@ -22,7 +24,7 @@ const BEYOND_ANY_AREA: u32 = 4294967295;
 pub const PAST_32_BITS: u64 = 4294967296;
 
 // An area's width and height, and its origin: where its first square lies on the site grid.
-#[derive(Drop)]
+#[derive(Clone, Copy)]
 pub struct Area {
     pub w: u32,
     pub h: u32,
@@ -31,7 +33,7 @@ pub struct Area {
 }
 
 // Why a call or a line is refused.
-#[derive(Drop)]
+#[derive(Clone, Copy)]
 pub enum Refusal {
     AreaLimit,
     SquareOutside,
@@ -51,7 +53,7 @@ pub enum Refusal {
 }
 
 // Whether a call goes on, or why it does not.
-#[derive(Drop)]
+#[derive(Clone, Copy)]
 pub enum Admission {
     Granted,
     Refused(Refusal),

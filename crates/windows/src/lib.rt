@@ -1,4 +1,6 @@
 // The numbers of a window's squares, as runs.
+#![tactic(auto)]
+
 ghost use Rattle.std.specs.Prelude.{[], ◌≡◌};
 ghost use Rattle.terms.specs.Guards.{admitted, first};
 ghost use Rattle.windows.specs.Windows.{uncrossed, old_corners, window_guards, runs_for_window_at, slice_after_at, runs_figures};
@@ -8,7 +10,7 @@ use panes::Pane;
 use terms::{Admission, Area, Refusal};
 
 // The squares with x from x0 to x1 and y from y0 to y1, ends included, on the site grid.
-#[derive(Drop)]
+#[derive(Clone, Copy)]
 pub struct Window {
     pub x0: i32,
     pub y0: i32,
@@ -17,7 +19,7 @@ pub struct Window {
 }
 
 // A window's corners, counted from the area's own corner.
-#[derive(Drop)]
+#[derive(Clone, Copy)]
 struct Corners {
     x0: u32,
     y0: u32,
@@ -26,7 +28,7 @@ struct Corners {
 }
 
 // What the call answers: how many runs there are, and that they are written; or how many there are where the slice has no room for them.
-#[derive(Drop)]
+#[derive(Clone, Copy)]
 pub enum RunsAnswer {
     Found { count: u32 },
     Short { count: u32 },

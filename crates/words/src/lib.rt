@@ -1,4 +1,6 @@
 // What a field of a line holds: a word, or a number, with a sign or without.
+#![tactic(auto)]
+
 ghost use Rattle.std.specs.Prelude.{cond, ◌&&◌, ◌≡◌, ◌≤◌, leb, length, drop};
 ghost use Rattle.terms.specs.Terms.{past_32_bits};
 ghost use Rattle.words.specs.Words.{all_digits, may_begin, value, numeral, numeral_figures, Spells, same_bytes, begins};
@@ -13,14 +15,14 @@ const LARGEST: u64 = 4294967295;
 const LARGEST_MAGNITUDE: u32 = 2147483647;
 
 // A field read as a number.
-#[derive(Drop)]
+#[derive(Clone, Copy)]
 pub enum Numeral {
     Value(u32),
     NoNumber,
 }
 
 // A field read as a number that may carry a minus.
-#[derive(Drop)]
+#[derive(Clone, Copy)]
 pub enum SignedNumeral {
     Value(i32),
     NoNumber,
