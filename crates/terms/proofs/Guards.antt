@@ -95,6 +95,7 @@ fails (g ∷ gs) r e = by g.holds (same g.refusal r) (stands r gs) refl refl e (
     by true false later is l e rest = (refl, rest e)
 
 pub refuses : (gs : List Guard) (r : Refusal) → Fails gs r → admitted gs ≡ Refused r
+refuses [] r f = elim f [ ]
 refuses (g ∷ gs) r f = by g.holds (same g.refusal r) (stands r gs) refl f (refuses gs r)
   where
     by : (t here later : Bool) → same g.refusal r ≡ here → AtGuard here later (t ≡ true) (t ≡ false) (Fails gs r) → (Fails gs r → admitted gs ≡ Refused r)

@@ -114,6 +114,7 @@ fn is_offset(o: i32) -> bool
 }
 
 // Whether an origin is within the range.
+#[tactic(auto, unfolding(crate::specs::Terms::origin_accepted))]
 pub fn accepts_origin(ox: i32, oy: i32) -> bool
     ensures { result ≡ origin_accepted ox oy }
 {
