@@ -31,8 +31,8 @@ module _ (k : Block) (z : Sized k) (before : List Block) (q : Block) (after : Li
   not_straight none = empty before (sym e ∙ none)
     where
       empty : (xs : List Block) → xs ++ (q ∷ after) ≡ [] → ⊥
-      empty [] f = absurd (mathlib.Core.List.cons_ne_nil q after f)
-      empty (x ∷ xs) f = absurd (mathlib.Core.List.cons_ne_nil x (xs ++ (q ∷ after)) f)
+      empty [] f = absurd (mathlib.Core.List.cons-ne-nil q after f)
+      empty (x ∷ xs) f = absurd (mathlib.Core.List.cons-ne-nil x (xs ++ (q ∷ after)) f)
 
   is_cut : Shape k → Cut k
   is_cut (in_run b none c) = absurd (not_straight none)
