@@ -4,20 +4,16 @@ use mathlib.Core.Path.{◌≡◌, refl}
 use Prim.Native.Nat.{ℕ}
 use Rattle.division.specs.Forms.{block}
 use Rattle.leaves.specs.Walk.{exchanged}
-use Rattle.leaves.proofs.exchanged_block.Statement.{statement}
-use Rattle.leaves.proofs.exchanged_block.Tie as tie
+use Rattle.leaves.proofs.exchanged_block.Goals as goal
 
-exchanged-by : (along across a b : ℕ) (turned back : Bool)
+exchanged_by : (along across a b : ℕ) (turned back : Bool)
     → block (record { along = across; across = along; turned = not turned; back = back; a = b; b = a })
     ≡ exchanged (block (record { along = along; across = across; turned = turned; back = back; a = a; b = b }))
 unfolding exchanged
-exchanged-by along across a b true back = refl
-exchanged-by along across a b false back = refl
+exchanged_by along across a b true back = refl
+exchanged_by along across a b false back = refl
 
-returns : tie.Need-returns
+pub returns : goal.returns
 returns c =
-    let k = c.before.args.k in
-    exchanged-by k.along k.across k.a k.b k.turned k.back
-
-pub exchanged-block-spec : {M : Type 1} → statement M
-exchanged-block-spec = tie.close (tie.spec returns)
+    let k = c.args.k in
+    exchanged_by k.along k.across k.a k.b k.turned k.back

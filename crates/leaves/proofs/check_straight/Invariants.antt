@@ -1,0 +1,10 @@
+-- `leaves::check_straight` meets its contract. The invariant: the first i squares of the run are looked at; the measure is what is left of it.
+use mathlib.Core.Path.{◌≡◌}
+use Prim.Native.Nat.{◌≤◌}
+use Rattle.leaves.specs.Walk.{least_one, over}
+use Rattle.leaves.proofs.Straight.{run_places}
+use Rattle.leaves.proofs.check_straight.Given as goal
+
+abbrev pub invariant-loop-i : goal.invariant-loop-i
+invariant-loop-i l =
+    (l.i ≤ l.i-end) × (l.least ≡ over (least_one l.by_square l.table) l.so_far l.at (run_places l.k l.w l.i))

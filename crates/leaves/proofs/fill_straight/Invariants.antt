@@ -1,0 +1,9 @@
+-- `leaves::fill_straight` meets its contract. The invariant: the first i squares of the run are entered; the measure is what is left of it.
+use mathlib.Core.Path.{◌≡◌}
+use Prim.Native.Nat.{◌≤◌}
+use Rattle.leaves.specs.Walk.{enter_one, over}
+use Rattle.leaves.proofs.Straight.{run_places}
+use Rattle.leaves.proofs.fill_straight.Given as goal
+
+abbrev pub invariant-loop-i : goal.invariant-loop-i
+invariant-loop-i l = (l.i ≤ l.i-end) × (l.table ≡ over (enter_one l.by_square) l.initial.table l.at (run_places l.k l.w l.i))
