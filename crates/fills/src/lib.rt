@@ -11,7 +11,7 @@ use division::{Choice, Placed};
 use terms::Area;
 
 // A block, its fields handed on one by one: handed on whole it would be copied at each call, which nearly doubles the time.
-#[cycle(fill_block_fill_choice_fill_long_cut_fill_u_cut)]
+#[cycle(fill)]
 pub fn fill_block(table: &mut [u32], k: Placed, area: Area, at: u32, by_square: bool) -> u64
     requires { Fits by_square area.w area.h (length table.old) (block k) at }
     ensures table { table.new ≡ filled_with by_square area.w table.old (block k) at }
@@ -23,7 +23,7 @@ pub fn fill_block(table: &mut [u32], k: Placed, area: Area, at: u32, by_square: 
 }
 
 // A block by its case. It and the two cuts call each other; the block's area falls.
-#[cycle(fill_block_fill_choice_fill_long_cut_fill_u_cut)]
+#[cycle(fill)]
 fn fill_choice(
     table: &mut [u32],
     along: u32,
@@ -71,7 +71,7 @@ fn fill_choice(
 }
 
 // The two parts of a long cut. By number the second repeats the first where it is as long: it is copied.
-#[cycle(fill_block_fill_choice_fill_long_cut_fill_u_cut)]
+#[cycle(fill)]
 fn fill_long_cut(table: &mut [u32], k: Placed, area: Area, at: u32, by_square: bool) -> u64
     requires { Fits by_square area.w area.h (length table.old) (block k) at × (choice k.a k.b ≡ LongCut) }
     ensures table { table.new ≡ filled_with by_square area.w table.old (block k) at }
@@ -94,7 +94,7 @@ fn fill_long_cut(table: &mut [u32], k: Placed, area: Area, at: u32, by_square: b
 
 // The three parts of a U cut. By number C repeats A, turned round, where the run is even: it is copied. A part is handed on in memory, so all three have one
 // place: a walk's stack is as deep as its blocks.
-#[cycle(fill_block_fill_choice_fill_long_cut_fill_u_cut)]
+#[cycle(fill)]
 fn fill_u_cut(table: &mut [u32], k: Placed, area: Area, at: u32, by_square: bool) -> u64
     requires { Fits by_square area.w area.h (length table.old) (block k) at × (choice k.a k.b ≡ UCut) }
     ensures table { table.new ≡ filled_with by_square area.w table.old (block k) at }
