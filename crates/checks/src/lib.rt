@@ -12,7 +12,7 @@ use terms::Area;
 
 // A block, its fields handed on one by one: handed on whole it would be copied at each call, which nearly doubles the time. By number what was found
 // before the block stays the least, and nothing more is looked at.
-#[cycle(check_block_check_choice_check_long_cut_check_u_cut)]
+#[cycle(check)]
 pub fn check_block(
     table: &[u32],
     k: Placed,
@@ -35,7 +35,7 @@ pub fn check_block(
 }
 
 // A block by its case. It and the two cuts call each other; the block's area falls.
-#[cycle(check_block_check_choice_check_long_cut_check_u_cut)]
+#[cycle(check)]
 fn check_choice(
     table: &[u32],
     along: u32,
@@ -97,7 +97,7 @@ fn comparable(by_square: bool, alike: bool, to: u32, least: u64) -> bool
 }
 
 // The two parts of a long cut. By number the second repeats the first where it is as long: if it agrees with it, nothing in it is wrong.
-#[cycle(check_block_check_choice_check_long_cut_check_u_cut)]
+#[cycle(check)]
 fn check_long_cut(
     table: &[u32],
     k: Placed,
@@ -123,7 +123,7 @@ fn check_long_cut(
 }
 
 // The three parts of a U cut. By number C repeats A, turned round, where the run is even.
-#[cycle(check_block_check_choice_check_long_cut_check_u_cut)]
+#[cycle(check)]
 fn check_u_cut(table: &[u32], k: Placed, area: Area, at: u32, by_square: bool, so_far: u64) -> u64
     requires { Fits by_square area.w area.h (length table.now) (block k) at × (choice k.a k.b ≡ UCut) }
     ensures { result ≡ checked by_square area.w table.now (block k) at so_far }
