@@ -5,7 +5,7 @@ use Prim.Native.Nat.{ℕ, suc, ◌+◌, ◌-◌, ◌*◌, ◌≤◌, ◌<◌}
 use native.Mathlib.Omega.{arith}
 use lib.ListN.{length, take, drop, set, replicate, length-drop}
 use lib.Seq.{sets, sets-eq, take_at, drop_at, take-suc-set, drop-set-add, length-take-le}
-use Rattle.sectors.specs.Sectors.{check_of, counted, sealed}
+use Rattle.sectors.specs.Sectors.{check_of, sealed}
 use Rattle.sectors.specs.Steps.{slice, sealed_at}
 use Rattle.sectors.proofs.Entering.{zeros_fill, sets_append}
 
