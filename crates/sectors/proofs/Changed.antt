@@ -76,7 +76,8 @@ module _ (words : List ℕ) (n i v : ℕ) (room : 128 * n ≤ length words) (l :
   here =
       let b = i / 128 in
       let at : i ≡ 128 * b + i % 128 = omega arith in
-      let word : get_or (drop (128 * b) words) (i % 128) 0 ≡ get_or words i 0 = get_or-drop (128 * b) words (i % 128) 0 ∙ ap (λ (k : ℕ). get_or words k 0) (sym at) in
+      let word : get_or (drop (128 * b) words) (i % 128) 0 ≡ get_or words i 0 =
+      get_or-drop (128 * b) words (i % 128) 0 ∙ ap (λ (k : ℕ). get_or words k 0) (sym at) in
       let long = length-drop (128 * b) words in
       ap good (ap (λ (k : ℕ). drop (128 * b) (set words k v)) at ∙ drop-set-add (128 * b) words (i % 128) v)
       ∙ changed_bad (drop (128 * b) words) (i % 128) v (omega arith) (omega arith) (omega (arith, word, small)) small_v (λ e. other (sym word ∙ e))
