@@ -152,6 +152,7 @@ pub fn is_word(s: &[u8], word: &[u8]) -> bool
 }
 
 // Whether a line begins with a word.
+#[tactic(auto, using(crate::proofs::Same::too_short))]
 pub fn begins_with(line: &[u8], word: &[u8]) -> bool
     ensures { result ≡ begins line.now word.now }
 {
