@@ -24,6 +24,7 @@ pub enum Taken {
 }
 
 // Where the bytes from a place on that are no space end.
+#[tactic(auto, using(crate::proofs::FieldEnds::end_here, crate::proofs::FieldEnds::end_on, crate::proofs::FieldEnds::end_past), unfolding(crate::specs::Reading::field_at))]
 fn end_of(line: &[u8], at: usize) -> usize
     ensures { result ≡ (field_at line.now at).end }
 {
@@ -38,6 +39,7 @@ fn end_of(line: &[u8], at: usize) -> usize
 }
 
 // The field of a line that begins at a place.
+#[tactic(auto, using(crate::proofs::FieldEnds::one_more, crate::proofs::FieldEnds::no_more))]
 fn field_at(line: &[u8], at: usize) -> Field
     ensures { result ≡ field_at line.now at }
 {
@@ -57,6 +59,7 @@ fn field_at(line: &[u8], at: usize) -> Field
 }
 
 // The bytes of a field, none if it does not lie in the line.
+#[tactic(auto, unfolding(crate::specs::Reading::piece))]
 pub fn bytes_of<'a>(line: &'a [u8], f: Field) -> &'a [u8]
     ensures { result.now ≡ piece line.now f }
 {
@@ -72,6 +75,7 @@ pub fn bytes_of<'a>(line: &'a [u8], f: Field) -> &'a [u8]
 }
 
 // What is taken of a line whose first three fields, as far as it has them, are a, b and c: the last of them ends where the line ends.
+#[tactic(auto, unfolding(crate::specs::Reading::taken_of))]
 fn taken_of(line: &[u8], a: Field, b: Field, c: Field) -> Taken
     ensures { result ≡ taken_of line.now a b c }
 {
@@ -120,6 +124,7 @@ fn moved_past<'a>(r: Reader<'a>, f: Field) -> Reader<'a>
 }
 
 // Takes the fields that any shape can need, one at a time from the left.
+#[tactic(auto, unfolding(crate::specs::Reading::three_read))]
 pub fn read_three(line: &[u8]) -> Taken
     ensures { result ≡ three_read line.now }
 {
