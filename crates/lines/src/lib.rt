@@ -32,6 +32,7 @@ pub fn begins_setting(line: &[u8]) -> bool
 }
 
 // What a line asks, whatever its bytes are.
+#[tactic(auto, using(crate::proofs::Shapes::long_line))]
 pub fn request_of(line: &[u8]) -> Request
     ensures figures { asked result ≡ asked (request line.now) }
     ensures spelling { Says result line.now }

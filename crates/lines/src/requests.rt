@@ -96,6 +96,7 @@ fn three_fields(word: &[u8], a: &[u8], b: &[u8]) -> Request
 }
 
 // What a line asks by the fields that are taken of it.
+#[tactic(auto, unfolding(crate::specs::Lines::shaped))]
 pub(crate) fn made_of(line: &[u8], taken: Taken) -> Request
     ensures { result ≡ shaped (pieces line.now taken) }
 {
