@@ -27,6 +27,9 @@ pub end_past : (line : List ℕ) (at : ℕ) → length line ≤ at → end_from 
 unfolding up_to_space
 end_past line at l = rw (drop_of_length-le line l) (add-zero at)
 
+-- the laws of the end, by one name
+pub ruleset ends = (end_here, end_on, end_past)
+
 -- the field, from its end
 field_is : (line : List ℕ) (at end : ℕ) → end ≡ (field_at line at).end → field_to line at end ≡ field_at line at
 unfolding field_at

@@ -24,7 +24,7 @@ pub enum Taken {
 }
 
 // Where the bytes from a place on that are no space end.
-#[tactic(auto, using(crate::proofs::FieldEnds::end_here, crate::proofs::FieldEnds::end_on, crate::proofs::FieldEnds::end_past), unfolding(crate::specs::Reading::field_at))]
+#[tactic(auto, using(crate::proofs::FieldEnds::ends), unfolding(crate::specs::Reading::field_at))]
 fn end_of(line: &[u8], at: usize) -> usize
     ensures { result ≡ (field_at line.now at).end }
 {

@@ -17,7 +17,8 @@ use Rattle.words.specs.Words.{largest_number, all_digits, may_begin, value_on, v
 abbrev pub due : ℕ → List ℕ → ℕ
 due n bs = cond (all_digits bs) (value_on n bs) past_32_bits
 
-pub due_on : (s : List ℕ) (i v : ℕ) → i < length s → 48 ≤ get_or s i 0 → get_or s i 0 ≤ 57 → due (v * 10 + (get_or s i 0 - 48)) (drop (i + 1) s) ≡ due v (drop i s)
+pub due_on : (s : List ℕ) (i v : ℕ) → i < length s → 48 ≤ get_or s i 0 → get_or s i 0 ≤ 57
+    → due (v * 10 + (get_or s i 0 - 48)) (drop (i + 1) s) ≡ due v (drop i s)
 unfolding all_digits value_on
 due_on s i v l low high =
     let on : i + 1 ≡ suc i = omega arith in
@@ -41,6 +42,9 @@ below_ten v d i l m = let on : i + 1 ≡ suc i = omega arith in rw on (omega ari
 
 pub ten_digits : (v i : ℕ) → v < 10 ^ i → i ≤ 10 → v < 10000000000
 ten_digits v i l m = lt_of_lt_of_le l (pow-le-pow_right (zero-lt-suc 9) m)
+
+-- the laws of what is due where a turn ends it, by one name
+pub ruleset dues = (due_low, due_high, due_end, ten_digits)
 
 -- how a field begins
 abbrev pub begun : List ℕ → Bool

@@ -165,3 +165,15 @@ module _ (f : List ℕ) (some : 1 ≤ length f) where
       by : (f : List ℕ) → 1 ≤ length f → (get_or f 0 0 ≡ 45 → ⊥) → upwards (numeral f) ≡ signed_numeral f
       by [] l e = absurd (omega arith)
       by (b ∷ bs) l e = sym (rw (ne_eqb b 45 e))
+
+-- what a field is read as, by its first byte and spelling, and these laws by one name
+pub by_minus : (f : List ℕ) → 1 ≤ length f → get_or f 0 0 ≡ 45 → signed_numeral f ≡ downwards (numeral (drop 1 f))
+by_minus f some sign = sym (behind_minus f some sign (numeral (drop 1 f)) refl refl)
+
+pub by_digits : (f : List ℕ) → 1 ≤ length f → (get_or f 0 0 ≡ 45 → ⊥) → signed_numeral f ≡ upwards (numeral f)
+by_digits f some other = sym (without_minus f some other (numeral f) refl refl)
+
+pub spelt_as : (f : List ℕ) (r : SignedNumeral) → r ≡ signed_numeral f → SpellsSigned f r
+spelt_as f r e = (told_signed f e).1
+
+pub ruleset signs = (by_minus, by_digits, spelt_as)

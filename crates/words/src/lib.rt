@@ -29,6 +29,7 @@ pub enum SignedNumeral {
 }
 
 // The value of up to ten digits, or one over the largest number if a byte is no digit.
+#[tactic(auto, using(crate::proofs::Numerals::dues))]
 fn digits_value(s: &[u8]) -> u64
     requires { length s.now ≤ 10 }
     ensures { result ≡ cond (all_digits s.now) (value s.now) past_32_bits }
@@ -123,6 +124,7 @@ fn behind_first<'a>(s: &'a [u8]) -> &'a [u8]
 }
 
 // A field's number where it may carry a minus: at most 2,147,483,647 either way.
+#[tactic(auto, using(crate::proofs::Signs::signs, crate::proofs::Promises::numeral_one))]
 pub fn signed_numeral_of(s: &[u8]) -> SignedNumeral
     ensures figures { signed_numeral_figures result ≡ signed_numeral_figures (signed_numeral s.now) }
     ensures spelling { SpellsSigned s.now result }

@@ -22,5 +22,6 @@ returns-then-v-gt-LARGEST c =
 
 pub returns : goal.returns
 returns c =
-    let told = told_so c.args.s.now (a_number _ _ c.digits_value-v.ensures (sym c.begins_well.ensures ∙ c.if-not-begins_well.false) (omega arith) (omega arith)) in
+    let begun = sym c.begins_well.ensures ∙ c.if-not-begins_well.false in
+    let told = told_so c.args.s.now (a_number _ _ c.digits_value-v.ensures begun (omega arith) (omega arith)) in
     record { figures = told.0; spelling = told.1 }
