@@ -14,7 +14,7 @@ use Rattle.terms.specs.declared.Area.{Area}
 use Rattle.terms.specs.declared.Admission.TheVariants.{Granted, Refused}
 use Rattle.terms.specs.declared.Refusal.{Refusal}
 use Rattle.terms.specs.declared.Refusal.TheVariants.{TooDeep}
-use Rattle.terms.specs.Terms.{longest_side, most_blocks, accepted, offset_accepted, grid_accepted, distance_of, below, Limits}
+use Rattle.terms.specs.Terms.{longest_side, most_blocks, accepted, offset_accepted, grid_accepted, distance_of, Limits}
 use Rattle.terms.specs.Terms.{SignedFigures, refused, in_signs, signed}
 use Rattle.terms.specs.Guards.{◌else◌, admitted, guarded, first}
 use Rattle.terms.proofs.Limits.{limits, squares_limit, all_accepted, grid_passed}

@@ -200,6 +200,7 @@ module _ (a b : ℕ) (la : 1 ≤ a) (lb : 1 ≤ b) where
   along : (before ps : List Part) → parts_of (choice a b) ≡ before ++ ps → Chain a b ps → (n : ℕ) → n + 1 < squares_of a b ps
       → At (squares_of a b before + n)
   unfolding squares_of
+  along before [] e chain n l = elim chain [ ]
   along before (p ∷ []) e (last climb) n l = within_part before p [] e climb n (omega arith)
   along before (p ∷ q ∷ ps) e (on hp hq climb joins more) n l = by (dec_lt (n + 1) (area (part p (whole a b)))) (dec_lt n (area (part p (whole a b))))
       (λ m. along (before ++ (p ∷ [])) (q ∷ ps) (e ∙ sym (append_assoc before (p ∷ []) (q ∷ ps))) more m)
