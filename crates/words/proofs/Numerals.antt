@@ -1,12 +1,12 @@
 -- Digits read one by one: what is due of the whole field is what is due of the rest, with the value so far, which is below ten to the number of digits.
-use mathlib.Core.Bool.{Bool, true, false, cond, ◌&&◌, and-eq-true_iff}
-use mathlib.Core.List.{List}
+use mathlib.Core.Bool.{Bool, true, false, not, cond, ◌&&◌, and-eq-true_iff}
+use mathlib.Core.List.{List, [], ◌∷◌}
 use mathlib.Core.Path.{◌≡◌, refl, sym, ap, subst, ◌∙◌}
 use Prim.Native.Nat.{ℕ, suc, ◌+◌, ◌-◌, ◌*◌, ◌≤◌, ◌<◌, ◌^◌}
 use native.Mathlib.Nat.{zero-lt-suc, lt_of_lt_of_le, pow-le-pow_right}
 use native.Mathlib.Omega.{arith}
-use borrow.Author.Tests.{le-leb, lt-leb}
-use lib.Dec.{leb}
+use borrow.Author.Tests.{le-leb, lt-leb, eq-eqb, ne_eqb}
+use lib.Dec.{leb, eqb}
 use lib.ListN.{length, get_or, drop}
 use lib.Seq.{drop-cons, drop-length}
 use Rattle.terms.specs.Terms.{past_32_bits}
@@ -49,6 +49,23 @@ pub ruleset dues = (due_low, due_high, due_end, ten_digits)
 -- how a field begins
 abbrev pub begun : List ℕ → Bool
 begun s = leb 1 (length s) && may_begin s
+
+pub begun_not : (s : List ℕ) → length s < 1 → false ≡ begun s
+begun_not [] l = refl
+begun_not (b ∷ s) l = absurd (omega arith)
+
+pub begun_single : (s : List ℕ) → 1 ≤ length s → length s < 2 → true ≡ begun s
+begun_single [] l m = absurd (omega arith)
+begun_single (b ∷ []) l m = refl
+begun_single (b ∷ c ∷ s) l m = absurd (omega arith)
+
+pub begun_ten : (s : List ℕ) → length s ≡ 10 → true ≡ begun s
+begun_ten s e = sym (rw (le-leb 1 (length s) (omega arith), eq-eqb (length s) 10 e) refl)
+
+pub begun_by : (s : List ℕ) → 2 ≤ length s → (length s ≡ 10 → ⊥) → not (eqb (get_or s 0 0) 48) ≡ begun s
+begun_by [] l other = absurd (omega arith)
+begun_by (b ∷ []) l other = absurd (omega arith)
+begun_by (b ∷ c ∷ s) l other = sym (rw (le-leb 1 (length (b ∷ c ∷ s)) (omega arith), ne_eqb (length (b ∷ c ∷ s)) 10 other) refl)
 
 -- five tests of which one fails
 no_begin : (a b c d e : Bool) → (a && d) ≡ false → (a && b && c && d && e) ≡ false

@@ -6,10 +6,14 @@ use mathlib.Core.Path.{◌≡◌, refl, sym, ap, subst, subst⁻¹, ◌∙◌}
 use Prim.Native.Nat.{ℕ, zero, suc, ◌+◌, ◌≤◌, ◌<◌}
 use native.Mathlib.Numerals.{add-one}
 use native.Mathlib.Omega.{arith}
-use borrow.Author.Tests.{le-leb, leb-true, ne_eqb, eqb-true, eq-eqb}
+use borrow.Author.Tests.{le-leb, lt-leb, leb-true, ne_eqb, eqb-true, eq-eqb}
 use lib.Dec.{leb, eqb}
-use lib.IntN.{ℤ, pos, negsuc, nat_abs}
+use lib.IntN.{ℤ, pos, negsuc, neg_ℤ, nat_abs, ◌-ℤ◌, +ℤ_idl}
 use lib.ListN.{length, drop, get_or}
+use lib.Signed.{mag}
+use mir.Syntax.{w32}
+use mir.Val.{SFits, to_z, of_z}
+use mir.Facts.{to_z-of_z, to_z_pos}
 use Rattle.words.specs.declared.Numeral as Numerals
 use Rattle.words.specs.declared.SignedNumeral.{SignedNumeral}
 use Rattle.words.specs.declared.SignedNumeral.TheVariants.{Value, NoNumber}
@@ -105,7 +109,39 @@ only_signed f NoNumber nothing = by (signed_numeral f) refl
     by (Value z) e = let s = signed_spelt f z e in absurd (nothing z s.0 s.1)
     by NoNumber e = refl
 
--- what the code makes of a field, by its first byte
+-- what the code makes of a number, by its tests: without a minus, and behind one
+module _ {m : Numerals.Numeral} {n : ℕ} (is : m ≡ Numerals.TheVariants.Value n) where
+  pub too_large_up : largest_magnitude < n → NoNumber ≡ upwards m
+  too_large_up l = sym (ap upwards is ∙ rw (lt-leb n largest_magnitude l))
+
+  module _ (l : n ≤ largest_magnitude) where
+    as_signed : to_z w32 n ≡ pos n
+    as_signed = to_z_pos w32 (let most : n < 2147483648 = omega arith in most)
+
+    pub told_up : Value (to_z w32 n) ≡ upwards m
+    told_up = ap Value as_signed ∙ sym (ap upwards is ∙ rw (le-leb n largest_magnitude l))
+
+    taken_off : pos 0 -ℤ to_z w32 n ≡ neg_ℤ (pos n)
+    taken_off = ap (λ (z : ℤ). pos 0 -ℤ z) as_signed ∙ +ℤ_idl (neg_ℤ (pos n))
+
+    pub fits_down : SFits w32 (pos 0 -ℤ to_z w32 n)
+    fits_down = subst⁻¹ (SFits w32) taken_off (record { sfits = by n l })
+      where
+        by : (n : ℕ) → n ≤ largest_magnitude → mag (neg_ℤ (pos n)) < 2147483648
+        by zero l = omega arith
+        by (suc n) l = omega arith
+
+    pub told_down : 1 ≤ n → Value (to_z w32 (of_z w32 (pos 0 -ℤ to_z w32 n))) ≡ downwards m
+    told_down some =
+        ap Value (to_z-of_z fits_down ∙ taken_off) ∙ sym (ap downwards is ∙ rw (le-leb 1 n some, le-leb n largest_magnitude l))
+
+  pub too_large_down : 1 ≤ n → largest_magnitude < n → NoNumber ≡ downwards m
+  too_large_down some l = sym (ap downwards is ∙ rw (le-leb 1 n some, lt-leb n largest_magnitude l))
+
+  pub zero_down : n < 1 → NoNumber ≡ downwards m
+  zero_down none = sym (ap downwards is ∙ rw (lt-leb 1 n none))
+
+-- and of a field, by its first byte
 pub no_field : (f : List ℕ) → length f < 1 → NoNumber ≡ signed_numeral f
 unfolding signed_numeral
 no_field [] l = refl
