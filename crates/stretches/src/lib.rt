@@ -43,7 +43,7 @@ fn put_straight(out: &mut [u32], first: u32, k: Placed, area: Area, at: u32)
 
 // A block, unless it lies wholly before the stretch or behind it. One that lies wholly in it is filled, with what repeats copied. It and the two cuts call each
 // other; the block's area falls.
-#[cycle(stretch_block_stretch_long_cut_stretch_u_cut)]
+#[cycle(stretch)]
 fn stretch_block(out: &mut [u32], first: u32, k: Placed, area: Area, at: u32)
     requires { Lies area.w area.h (block k) at }
     ensures { out.new ≡ stretched first area.w out.old (block k) at }
@@ -71,7 +71,7 @@ fn stretch_block(out: &mut [u32], first: u32, k: Placed, area: Area, at: u32)
 }
 
 // The two parts of a long cut.
-#[cycle(stretch_block_stretch_long_cut_stretch_u_cut)]
+#[cycle(stretch)]
 fn stretch_long_cut(out: &mut [u32], first: u32, k: Placed, area: Area, at: u32)
     requires { Lies area.w area.h (block k) at × (choice k.a k.b ≡ LongCut) }
     ensures { out.new ≡ stretched first area.w out.old (block k) at }
@@ -82,7 +82,7 @@ fn stretch_long_cut(out: &mut [u32], first: u32, k: Placed, area: Area, at: u32)
 }
 
 // The three parts of a U cut, which have one place in memory: a walk's stack is as deep as its blocks.
-#[cycle(stretch_block_stretch_long_cut_stretch_u_cut)]
+#[cycle(stretch)]
 fn stretch_u_cut(out: &mut [u32], first: u32, k: Placed, area: Area, at: u32)
     requires { Lies area.w area.h (block k) at × (choice k.a k.b ≡ UCut) }
     ensures { out.new ≡ stretched first area.w out.old (block k) at }
