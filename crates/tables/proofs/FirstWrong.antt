@@ -58,7 +58,8 @@ module _ (ds vs : List ℕ) (n : ℕ) (long : length ds ≡ n) (size : length vs
   first_wrong : judged 0 ds vs ≡ verdict n m
   first_wrong =
       some (λ x. x ≡ m → judged 0 ds vs ≡ verdict n x)
-      (λ e. judged_right 0 ds vs (size ∙ sym long) (λ i l. let b : i < n = omega arith in same_by i b (eqb (get_or vs i 0) (get_or ds i 0)) refl n b (omega arith))
+      (λ e. judged_right 0 ds vs (size ∙ sym long)
+      (λ i l. let b : i < n = omega arith in same_by i b (eqb (get_or vs i 0) (get_or ds i 0)) refl n b (omega arith))
       ∙ sym (rw (eq-eqb (wrong_packed n 0) (wrong_packed n 0) refl)))
       (λ i b other e. let value = small i b in
       judged_wrong 0 ds vs (size ∙ sym long) i (omega arith) other

@@ -36,7 +36,8 @@ place_holds f (suc n) i l =
     (eq-or-lt_of_le (le_of_suc-le-suc l))
 
 -- by square: a place that is not among those entered keeps its value, and one that is gets its number
-kept_place : (t : List ℕ) (n : ℕ) (ps : List ℕ) (p : ℕ) → ((j : ℕ) → j < length ps → get_or ps j 0 ≡ p → ⊥) → get_or (over (enter_one true) t n ps) p 0 ≡ get_or t p 0
+kept_place : (t : List ℕ) (n : ℕ) (ps : List ℕ) (p : ℕ) → ((j : ℕ) → j < length ps → get_or ps j 0 ≡ p → ⊥) → get_or (over (enter_one true) t n ps) p 0 ≡
+    get_or t p 0
 unfolding over
 kept_place t n [] p other = refl
 kept_place t n (q ∷ ps) p other =
