@@ -1,0 +1,6 @@
+use native.Mathlib.Omega.{arith}
+use Rattle.terms.proofs.Telling.{grants}
+use Rattle.layouts.proofs.frames_held.Goals as goal
+
+pub returns : goal.returns
+returns c = grants (λ b l. c.loop-b.invariant.2 b (omega arith))
