@@ -11,7 +11,7 @@ use lib.Dec.{eqb}
 use lib.IntN.{ℤ, pos, ◌+ℤ◌, ◌-ℤ◌}
 use lib.Signed.{mag}
 use Rattle.terms.specs.declared.Area.{Area}
-use Rattle.terms.specs.Terms.{grid_accepted, SignedFigures, in_signs, Limits}
+use Rattle.terms.specs.Terms.{accepted, grid_accepted, SignedFigures, in_signs, Limits}
 use Rattle.terms.proofs.Limits.{limits, grid_guards_passed, grid_passed}
 use Rattle.terms.proofs.Guards.{◌and◌, answered_so}
 use Rattle.terms.proofs.Refusals.{signed_figure}
@@ -162,6 +162,33 @@ low_ends w h more two = by (eqb (w % 2) 1) refl
     by false r =
         let even = eqb-false (w % 2) 1 r in
         corner more (λ is. omega arith) (omega arith) refl
+
+-- The same for accepted lengths, as the code tells the last square: by width 1, by height 2, and otherwise.
+module _ (w h : ℕ) (ok : accepted w h ≡ true) where
+  least : Limits w h
+  least = limits w h ok
+
+  wide : (w ≡ 1 → ⊥) → 2 ≤ w
+  wide other = let l = least.w_least in omega arith
+
+  pub width_some : 1 ≤ w
+  width_some = least.w_least
+
+  pub height_some : 1 ≤ h
+  height_some = least.h_least
+
+  pub up_last : w ≡ 1 → square 0 (h - 1) ≡ square_of (whole w h) (w * h - 1)
+  up_last one = let l = least.h_least in sym (last_square w h 0 (h - 1) least.w_least least.h_least (up one refl (omega arith)))
+
+  pub low_last : (w ≡ 1 → ⊥) → h ≡ 2 → square (w - 1 - w % 2) 0 ≡ square_of (whole w h) (w * h - 1)
+  low_last other two = sym (last_square w h (w - 1 - w % 2) 0 least.w_least least.h_least (low_ends w h (wide other) two))
+
+  pub corner_last : (w ≡ 1 → ⊥) → (h ≡ 2 → ⊥) → square (w - 1) 0 ≡ square_of (whole w h) (w * h - 1)
+  corner_last other high =
+      let more = wide other in
+      sym (last_square w h (w - 1) 0 least.w_least least.h_least (corner more (λ two. absurd (high two)) (omega arith) refl))
+
+pub ruleset where_it_ends = (width_some, height_some, up_last, low_last, corner_last)
 
 -- Every area ends in one of the ways.
 pub ends : (w h : ℕ) → 1 ≤ w → 1 ≤ h → (x : ℕ) × (y : ℕ) × Ends w h x y

@@ -124,6 +124,7 @@ struct OldSquare {
 }
 
 // The square of the last number. The area's lengths tell it, so that no block has to be opened.
+#[tactic(auto, using(crate::proofs::Finish::where_it_ends))]
 fn last_square(w: u32, h: u32) -> OldSquare
     requires { accepted w h ≡ true }
     ensures { square result.x result.y ≡ square_of (whole w h) (w * h - 1) }
