@@ -94,7 +94,8 @@ pub numbered_next : {t ns t' t'' : List ℕ} {from end end' i : ℕ} → Numbere
 numbered_next {t} {ns} {t'} {t''} {from} {end} {end'} {i} before more next few =
     let on : i + 1 ≡ suc i = omega arith in
     let all : all_spaced (in_signs (take (i + 1) ns)) ≡ all_spaced (in_signs (take i ns)) ++ spaced (pos (get_or ns i 0)) =
-    ap (λ n. all_spaced (in_signs (take n ns))) on ∙ ap (λ ns. all_spaced (in_signs ns)) (take-suc ns i 0 more) ∙ all_spaced_last (take i ns) (get_or ns i 0) in
+    ap (λ n. all_spaced (in_signs (take n ns))) on ∙ ap (λ ns. all_spaced (in_signs ns)) (take-suc ns i 0 more) ∙ all_spaced_last (take i ns)
+    (get_or ns i 0) in
     record { so_far = rw all (writes_both before.so_far next); short = omega arith; among = omega arith; room = before.room }
 
 pub numbered_all : {t ns t' : List ℕ} {from end i : ℕ} → Numbered t from ns t' end i → length ns ≤ i
