@@ -183,8 +183,8 @@ pub fn feed(
     at: usize,
 ) -> Fed
     ensures fed { Feeds desk
-        (record { kept = kept.entry.now; chunk = chunk.now; from = from; out = out.old; at = at })
-        (record { desk = result.desk; kept = kept.exit.now; from = result.from; out = out.new; at = result.at }) }
+        (record { kept = kept.old; chunk = chunk.now; from = from; out = out.old; at = at })
+        (record { desk = result.desk; kept = kept.new; from = result.from; out = out.new; at = result.at }) }
     ensures within { at ≤ length out.old → result.at ≤ length out.old }
 {
     let mut d = desk;
