@@ -61,7 +61,8 @@ pub data Departs (w h kind : ℕ) (file : List ℕ) : Type 0 where
   other_head_count : (word file 126 ≡ 4 → ⊥) → Departs w h kind file
   used_in_head : (j : ℕ) → 4 ≤ j → j < 126 → (word file j ≡ 0 → ⊥) → Departs w h kind file
   other_count : (b : ℕ) → b < (w * h + 125) / 126 → (word file (128 * (1 + b) + 126) ≡ min 126 (w * h - 126 * b) → ⊥) → Departs w h kind file
-  used_behind : (b j : ℕ) → b < (w * h + 125) / 126 → min 126 (w * h - 126 * b) ≤ j → j < 126 → (word file (128 * (1 + b) + j) ≡ 0 → ⊥) → Departs w h kind file
+  used_behind : (b j : ℕ) → b < (w * h + 125) / 126 → min 126 (w * h - 126 * b) ≤ j → j < 126 → (word file (128 * (1 + b) + j) ≡ 0 → ⊥) → Departs w h kind
+      file
   wrong_place : (p : ℕ) → p < w * h → (word file (128 * (1 + p / 126) + p % 126) ≡ get_or (right_table w h kind) p 0 → ⊥) → Departs w h kind file
 
 -- a file that says all this departs in nothing

@@ -11,14 +11,13 @@ use lib.ListN.{length, get_or, set, replicate, length-set, length-replicate}
 use Rattle.terms.specs.declared.Area.{Area}
 use Rattle.terms.specs.declared.Refusal.{Refusal}
 use Rattle.terms.specs.declared.Refusal.TheVariants.{BadCheck}
-use Rattle.terms.specs.Terms.{accepted, past_32_bits, Figures, answered, refused, refused_with}
+use Rattle.terms.specs.Terms.{accepted, past_32_bits, Figures, answered, refused_with}
 use Rattle.terms.proofs.Limits.{limits, both_accepted}
 use Rattle.terms.proofs.Refusals.{named, named_back, refusal_not_0, figure}
-use Rattle.terms.proofs.Guards.{◌and◌}
 use Rattle.terms.proofs.OneAnswer.{one_equation, by_figures}
 use Rattle.terms.proofs.Meanings.{lengths_exactly, squares_exactly}
 use Rattle.sectors.specs.Sectors.{first_bad_in}
-use Rattle.sectors.proofs.Words.{Bytes, word_is}
+use Rattle.sectors.proofs.Words.{word_is}
 use Rattle.sectors.proofs.Changed.{one_byte}
 use Rattle.tables.specs.Tables.{by_number, by_square}
 use Rattle.tables.proofs.Admitted.{answered_left, refused_left}

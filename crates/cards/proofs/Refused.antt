@@ -2,7 +2,7 @@
 use mathlib.Core.Bool.{Bool, true, false, not, ◌||◌, true≢false}
 use mathlib.Core.List.{List, [], ◌∷◌}
 use mathlib.Core.Logic.{◌↔◌, ◌⊎◌, inl, inr, ⊎_elim}
-use mathlib.Core.Path.{◌≡◌, refl, sym, ap, subst, subst⁻¹, ◌∙◌}
+use mathlib.Core.Path.{◌≡◌, refl, sym, ap, subst⁻¹, ◌∙◌}
 use Prim.Native.Nat.{ℕ, ◌+◌, ◌*◌, ◌/◌, ◌%◌, ◌<◌}
 use native.Mathlib.Omega.{arith}
 use borrow.Author.Tests.{eqb-true, eqb-false, eq-eqb, ne_eqb}
@@ -171,7 +171,8 @@ module _ (w h kind : ℕ) (table file : List ℕ) where
   by_write r = refused_in_numbers (write_guards w h kind table (length file)) write_means 0 [] r
 
   -- a refusal that is not in the list never comes: the writer gives no 14
-  pub write_no_other : (r : Refusal) → stands r (write_guards w h kind table (length file)) ≡ false → (write w h kind table file).refusal ≡ refusal_number r → ⊥
+  pub write_no_other : (r : Refusal) → stands r (write_guards w h kind table (length file)) ≡ false → (write w h kind table file).refusal ≡ refusal_number
+      r → ⊥
   unfolding write
   write_no_other r other e = never (write_guards w h kind table (length file)) r 0 [] other e
 
@@ -335,7 +336,8 @@ write_gives w h kind table file =
   where
     by : (a b c d e f g : Bool) →
         let r =
-        (guarded (a else AreaLimit ∷ b else TooManySquares ∷ c else TableLength ∷ d else TableLength ∷ e else TooDeep ∷ f else Departure ∷ g else Departure ∷ [])
+        (guarded (a else AreaLimit ∷ b else TooManySquares ∷ c else TableLength ∷ d else TableLength ∷ e else TooDeep ∷ f else Departure ∷ g else Departure
+        ∷ [])
         0 []).refusal in
         (r ≡ 9 → ⊥) → GivesWritten r
     by true true true true true true true deep = inl refl
