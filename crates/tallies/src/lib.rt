@@ -12,7 +12,7 @@ use division::Choice;
 use panes::Pane;
 
 // Counts the runs of a pane: its score, with what is seen of the pane taken up.
-#[cycle(count_cut_count_long_count_pane_count_u)]
+#[cycle(count)]
 fn count_pane(p: Pane, n: u32, score: u64) -> u64
     requires { Walks p n score }
     ensures { tally result [] ≡ seen p (tally score []) n }
@@ -30,7 +30,7 @@ fn count_pane(p: Pane, n: u32, score: u64) -> u64
 }
 
 // A pane that has a square, by its block's case. Its fields are handed on one by one: handed on whole they would be copied at each call.
-#[cycle(count_cut_count_long_count_pane_count_u)]
+#[cycle(count)]
 fn count_cut(a: u32, b: u32, u0: u32, u1: u32, v0: u32, v1: u32, n: u32, score: u64) -> u64
     requires { Walks (pane_at a b u0 u1 v0 v1) n score × Opens (pane_at a b u0 u1 v0 v1) }
     ensures { tally result [] ≡ seen (pane_at a b u0 u1 v0 v1) (tally score []) n }
@@ -60,7 +60,7 @@ fn count_cut(a: u32, b: u32, u0: u32, u1: u32, v0: u32, v1: u32, n: u32, score: 
 }
 
 // The two parts of a long cut.
-#[cycle(count_cut_count_long_count_pane_count_u)]
+#[cycle(count)]
 fn count_long(p: Pane, n: u32, score: u64) -> u64
     requires { Walks p n score × (choice p.a p.b ≡ LongCut) }
     ensures { tally result [] ≡ seen p (tally score []) n }
@@ -71,7 +71,7 @@ fn count_long(p: Pane, n: u32, score: u64) -> u64
 }
 
 // The three parts of a U cut.
-#[cycle(count_cut_count_long_count_pane_count_u)]
+#[cycle(count)]
 fn count_u(p: Pane, n: u32, score: u64) -> u64
     requires { Walks p n score × (choice p.a p.b ≡ UCut) }
     ensures { tally result [] ≡ seen p (tally score []) n }
@@ -85,7 +85,7 @@ fn count_u(p: Pane, n: u32, score: u64) -> u64
 }
 
 // Writes the pairs of a pane's runs, as `count_pane` counts them.
-#[cycle(write_cut_write_long_write_pane_write_u)]
+#[cycle(write)]
 fn write_pane(runs: &mut [u32], p: Pane, n: u32, score: u64) -> u64
     requires { Walks p n score × Holds (seen p (tally score runs.old) n).score runs.old }
     ensures { tally result runs.new ≡ seen p (tally score runs.old) n }
@@ -102,7 +102,7 @@ fn write_pane(runs: &mut [u32], p: Pane, n: u32, score: u64) -> u64
     write_cut(runs, p.a, p.b, p.u0, p.u1, p.v0, p.v1, n, score)
 }
 
-#[cycle(write_cut_write_long_write_pane_write_u)]
+#[cycle(write)]
 fn write_cut(
     runs: &mut [u32],
     a: u32,
@@ -142,7 +142,7 @@ fn write_cut(
     }
 }
 
-#[cycle(write_cut_write_long_write_pane_write_u)]
+#[cycle(write)]
 fn write_long(runs: &mut [u32], p: Pane, n: u32, score: u64) -> u64
     requires { Walks p n score × (choice p.a p.b ≡ LongCut) × Holds (seen p (tally score runs.old) n).score runs.old }
     ensures { tally result runs.new ≡ seen p (tally score runs.old) n }
@@ -152,7 +152,7 @@ fn write_long(runs: &mut [u32], p: Pane, n: u32, score: u64) -> u64
     write_pane(runs, panes::in_second(p), n + e * p.b, first)
 }
 
-#[cycle(write_cut_write_long_write_pane_write_u)]
+#[cycle(write)]
 fn write_u(runs: &mut [u32], p: Pane, n: u32, score: u64) -> u64
     requires { Walks p n score × (choice p.a p.b ≡ UCut) × Holds (seen p (tally score runs.old) n).score runs.old }
     ensures { tally result runs.new ≡ seen p (tally score runs.old) n }

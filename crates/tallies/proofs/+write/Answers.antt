@@ -6,7 +6,7 @@ use Rattle.panes.proofs.PartsSeen.{no_run, no_side, none_seen, whole_seen, run_s
 use Rattle.tallies.proofs.PartByPart.{cut_of, long_two, long_fits, first_call, first_holds, second_call, second_holds, second_told}
 use Rattle.tallies.proofs.PartByPart.{u_two, u_fits, a_call, a_holds, b_call, b_holds, c_call, c_holds, c_told}
 use Rattle.tallies.proofs.Uncut.{holds_as, whole_joins, run_joins, side_joins, leaf_of}
-use Rattle.tallies.proofs.+write_cut_write_long_write_pane_write_u.Goals as goal
+use Rattle.tallies.proofs.+write.Goals as goal
 
 pub write_cut-write-requires : goal.write_cut-write-requires
 write_cut-write-requires t c =

@@ -1,7 +1,7 @@
 -- The measure of the four functions of the walk that writes: three times the block's area, plus 0 for a cut, 1 for `write_cut` and 2 for `write_pane`, which
 -- are three calls on one block.
 use Rattle.std.proofs.Common.{◌+◌, ◌*◌}
-use Rattle.tallies.proofs.+write_cut_write_long_write_pane_write_u.Given as goal
+use Rattle.tallies.proofs.+write.Given as goal
 
 abbrev pub decreases-write_cut : goal.decreases-write_cut
 decreases-write_cut l = 3 * (l.a * l.b) + 1

@@ -5,7 +5,7 @@ use Rattle.panes.proofs.PartsSeen.{no_run, no_side, none_seen, whole_seen, run_s
 use Rattle.panes.proofs.TakingUp.{count_joined}
 use Rattle.tallies.proofs.PartByPart.{long_two, long_fits, first_call, second_call, second_told, u_two, u_fits, a_call, b_call, c_call, c_told}
 use Rattle.tallies.proofs.Uncut.{leaf_of}
-use Rattle.tallies.proofs.+count_cut_count_long_count_pane_count_u.Goals as goal
+use Rattle.tallies.proofs.+count.Goals as goal
 
 pub count_cut-count_leaf-requires : goal.count_cut-count_leaf-requires
 count_cut-count_leaf-requires t c =

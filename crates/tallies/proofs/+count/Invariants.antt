@@ -1,7 +1,7 @@
 -- The measure of the four functions of the walk that counts: three times the block's area, plus 0 for a cut, 1 for `count_cut` and 2 for `count_pane`, which
 -- are three calls on one block.
 use Rattle.std.proofs.Common.{◌+◌, ◌*◌}
-use Rattle.tallies.proofs.+count_cut_count_long_count_pane_count_u.Given as goal
+use Rattle.tallies.proofs.+count.Given as goal
 
 abbrev pub decreases-count_cut : goal.decreases-count_cut
 decreases-count_cut l = 3 * (l.a * l.b) + 1
