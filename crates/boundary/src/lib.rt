@@ -2,6 +2,5 @@
 // laws stand here, and the functions in `exports`: so a wrong definition is refused without their proofs.
 #![tactic(auto)]
 
-
 // What a call returns where its slice is too short.
 pub const SHORT: u32 = 255;
