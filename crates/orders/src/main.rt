@@ -2,9 +2,12 @@
 // and writes the desk's text, and decides nothing. What fails is told in one line on standard error, and ends it with status 1.
 #![tactic(auto)]
 
-ghost use Rattle.std.specs.Prelude.{true, ◌≡◌, ◌≤◌, ◌<◌, length};
+ghost use Rattle.std.specs.Prelude.{true, false, ◌≡◌, ◌≤◌, ◌<◌, length, [], IsTrue, IfSome};
+ghost use Rattle.std.specs.Io.KnownBytes.{Appends};
 ghost use Rattle.replies.specs.Text.{longest};
+ghost use Rattle.desk.specs.Desk.{output};
 ghost use Rattle.desk.specs.Steps.{in_order};
+ghost use Rattle.orders.specs.Serving.{Answers, Turns};
 
 use desk::Desk;
 use std::env::FillError;
@@ -14,7 +17,9 @@ use std::rt::Env;
 use std::{fs, io};
 
 // Writes text that begins with the reply to a line, or tells that it cannot.
-fn write<W: Write>(rt: &HostRuntime, to: &mut W, text: &[u8], line: u32) -> bool {
+fn write<W: Write>(rt: &HostRuntime, to: &mut W, text: &[u8], line: u32) -> bool
+    ensures { IsTrue result → Appends (W.contents to.old) (W.contents to.new) text.now }
+{
     match streams::write_whole(rt, to, text) {
         Ok(()) => true,
         Err(e) => {
@@ -47,7 +52,8 @@ fn serve<W: Write>(
 ) -> Served
     requires ordered { in_order desk kept.old ≡ true }
     requires room { longest ≤ length out.old }
-    ensures { in_order result.desk kept.new ≡ true }
+    ensures ordered { in_order result.desk kept.new ≡ true }
+    ensures answered { result.failed ≡ false → Answers (W.contents to.old) (W.contents to.new) desk kept.old chunk.now result.desk kept.new [] }
 {
     let mut d = desk;
     let mut from = 0;
@@ -90,7 +96,9 @@ fn turn<R: Read, W: Write>(
 ) -> Went
     requires ordered { in_order desk kept.old ≡ true }
     requires room { longest ≤ length out.old }
-    ensures { in_order result.desk kept.new ≡ true }
+    ensures ordered { in_order result.desk kept.new ≡ true }
+    ensures answered { result.failed ≡ false → 1 ≤ length chunk.old
+        → Turns (R.remaining from.old) (R.remaining from.new) (W.contents to.old) (W.contents to.new) desk kept.old result.desk kept.new result.more }
 {
     match streams::read_some(rt, from, chunk) {
         Ok(n) => {
@@ -133,21 +141,26 @@ fn turns_left(more: bool, turns: u64) -> u64
     if more { turns - 1 } else { 0 }
 }
 
-// Answers the lines of a form, whose bytes a reader hands out, and says whether it could.
-fn answer<R: Read, W: Write>(rt: &HostRuntime, from: &mut R, to: &mut W) -> bool {
+// Answers the lines of a form, whose bytes a reader hands out, and says whether it could. The turns that it has are never used up.
+fn answer<R: Read, W: Write>(rt: &HostRuntime, from: &mut R, to: &mut W) -> bool
+    ensures { IsTrue result → IfSome (R.remaining from.old) (λ input. Appends (W.contents to.old) (W.contents to.new) (output input)) }
+{
     let mut kept = [0u8; desk::KEPT];
     let mut chunk = [0u8; 65536];
     let mut out = [0u8; 65536];
     let mut d = desk::opened();
-    let mut failed = false;
+    let mut more = true;
     let mut turns = u64::MAX;
     while 0 < turns {
         let t = turn(rt, from, to, d, &mut kept, &mut chunk, &mut out);
+        if t.failed {
+            return false;
+        }
         d = t.desk;
-        failed = t.failed;
-        turns = turns_left(t.more, turns);
+        more = t.more;
+        turns = turns_left(more, turns);
     }
-    if failed {
+    if more {
         return false;
     }
     let end = desk::finish(d, &kept, &mut out, 0);
