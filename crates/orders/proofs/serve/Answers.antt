@@ -1,6 +1,5 @@
 -- What `feed` promises keeps the desk in order and takes a byte, and what is written of it is what is printed; a closed desk is as much in order as it was.
-use Rattle.std.proofs.Common.{arith, ap, ◌∙◌, ◌≡◌, ◌+◌, ◌≤◌, ◌<◌, length}
-use Rattle.replies.specs.Text.{longest}
+use Rattle.std.proofs.Common.{arith, ap, ◌∙◌}
 use Rattle.desk.specs.declared.Desk.{Desk}
 use Rattle.desk.specs.Steps.{in_order}
 use Rattle.desk.proofs.Progress.{stays_in_order, goes_on}
