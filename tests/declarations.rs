@@ -37,9 +37,11 @@ fn c_type(number: &str) -> &'static str {
     }
 }
 
-// A parameter `name: type` as C has it; a slice of Rattle's is a pointer and a length.
+// A parameter `name: type` as C has it; a slice of Rattle's is a pointer and a length. In Rattle `result` is what a function returns, so that the parameter
+// which C calls so is `res` there.
 fn c_parameters(parameter: &str) -> Vec<String> {
     let (name, kind) = parameter.split_once(": ").expect("a name and a type");
+    let name = if name == "res" { "result" } else { name };
     let pointer = |constant: &str, element: &str| format!("{constant}{} *{name}", c_type(element));
     let slice = |constant: &str, element: &str| vec![pointer(constant, element.trim_end_matches(']')), format!("size_t {name}_length")];
     match kind {

@@ -1,4 +1,4 @@
-// refusals: the refusals have the same names and numbers everywhere. The list is the definition's, `refusal-number` in crates/terms/specs/Terms.antt; the
+// refusals: the refusals have the same names and numbers everywhere. The list is the definition's, `refusal_number` in crates/terms/specs/Terms.antt; the
 // C header, the bindings for Rust, Python and SQL and the page of rules are held to it, none more and none less.
 
 type Refusals = Vec<(String, String)>;
@@ -49,7 +49,7 @@ fn listed_in_sql(line: &str, header: &Refusals) -> Option<(String, String)> {
 
 fn main() {
     let defined = found("crates/terms/specs/Terms.antt", |line| {
-        let (name, number) = line.strip_prefix("refusal-number ")?.split_once(" = ")?;
+        let (name, number) = line.strip_prefix("refusal_number ")?.split_once(" = ")?;
         owned(name, number)
     });
     assert!(defined.len() > 1, "no refusal is defined");

@@ -117,11 +117,11 @@ impl<'a> Reader<'a> {
         assert!(independent::accepted(w, h).is_ok(), "{}: {w} by {h} is no area", self.path);
         let (curve, counts): (Vec<(i64, i64)>, Vec<i64>) = independent::traversal(w, h).into_iter().map(|(s, count)| ((s.x, s.y), count)).unzip();
         match kind {
-            "number-is" => {
+            "number_is" => {
                 let (number, square) = (self.number(), self.pair());
                 curve.iter().position(|s| *s == square) == Some(number as usize)
             }
-            "number-in" => {
+            "number_in" => {
                 let (number, square, count) = (self.number(), self.pair(), self.number());
                 curve.iter().position(|s| *s == square) == Some(number as usize) && counts[number as usize] == count
             }
@@ -182,7 +182,7 @@ fn compared_cards(path: &str) -> usize {
 }
 
 fn main() {
-    let tables = [("Worked", "worked"), ("Telling", "telling"), ("SingleCuts", "single-cuts")];
+    let tables = [("Worked", "worked"), ("Telling", "telling"), ("SingleCuts", "single_cuts")];
     let count: usize = tables.iter().map(|(file, name)| compared(&format!("crates/division/specs/Division/{file}.antt"), name)).sum();
     let cards = compared_cards("crates/cards/specs/Worked.antt");
     println!("telling: {count} cases of the three tables, and {cards} worked cards, as the independent program has them");

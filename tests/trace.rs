@@ -4,10 +4,12 @@
 use std::fs;
 use std::path::{Path, PathBuf};
 
+// The files below a folder, but what the toolchain made of a crate, in `out`.
 fn files_under(folder: &Path, all: &mut Vec<PathBuf>) {
     for entry in fs::read_dir(folder).expect("the folder can be read") {
         let path = entry.expect("an entry").path();
         match path.is_dir() {
+            true if path.ends_with("out") => {}
             true => files_under(&path, all),
             false => all.push(path),
         }
