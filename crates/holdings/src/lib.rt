@@ -147,7 +147,7 @@ fn filled_held(file: &[u8], k: Placed, area: Area, at: u32, buffer: &mut [u32]) 
 }
 
 // Whether a block stands in the file's table from number `at` on. It and the two cuts call each other; the block's area falls.
-#[cycle(block_held_long_cut_held_u_cut_held)]
+#[cycle(held)]
 fn block_held(file: &[u8], k: Placed, area: Area, at: u32, buffer: &mut [u32]) -> bool
     requires { Reaches file.now (area.w * area.h) × Lies area.w area.h (block k) at }
     ensures { result ≡ block_right area.w (table_in (words_of file.now) (area.w * area.h)) (block k) at }
@@ -166,7 +166,7 @@ fn block_held(file: &[u8], k: Placed, area: Area, at: u32, buffer: &mut [u32]) -
 }
 
 // The two parts of a long cut. The second repeats the first where it is as long.
-#[cycle(block_held_long_cut_held_u_cut_held)]
+#[cycle(held)]
 fn long_cut_held(file: &[u8], k: Placed, area: Area, at: u32, buffer: &mut [u32]) -> bool
     requires { Reaches file.now (area.w * area.h) × (Lies area.w area.h (block k) at × (choice k.a k.b ≡ LongCut)) }
     ensures { result ≡ block_right area.w (table_in (words_of file.now) (area.w * area.h)) (block k) at }
@@ -185,7 +185,7 @@ fn long_cut_held(file: &[u8], k: Placed, area: Area, at: u32, buffer: &mut [u32]
 }
 
 // The three parts of a U cut, which have one place in memory: a walk's stack is as deep as its blocks. C repeats A, turned round, where the run is even.
-#[cycle(block_held_long_cut_held_u_cut_held)]
+#[cycle(held)]
 fn u_cut_held(file: &[u8], k: Placed, area: Area, at: u32, buffer: &mut [u32]) -> bool
     requires { Reaches file.now (area.w * area.h) × (Lies area.w area.h (block k) at × (choice k.a k.b ≡ UCut)) }
     ensures { result ≡ block_right area.w (table_in (words_of file.now) (area.w * area.h)) (block k) at }
