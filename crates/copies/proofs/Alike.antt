@@ -1,6 +1,7 @@
 -- The places of a block that repeats another are the images of the other's. Both lie alike around their starts, by their own a by b area: a square lies
 -- as many places on from the one start as from the other, or as many back.
-use Rattle.std.proofs.Common.{◌≡◌, ℕ, ◌+◌, ◌-◌, ◌*◌, ◌<◌, ◌≤◌, Bool, true, false, cond, not, List, map, length, get_or, sym, ap, ◌∙◌, subst, ap₂, add-mul, arith, ext_get_or}
+use Rattle.std.proofs.Common.{◌≡◌, ℕ, ◌+◌, ◌-◌, ◌*◌, ◌<◌, ◌≤◌, Bool, true, false, cond, not, List, map, length, get_or, sym, ap, ◌∙◌, subst, ap₂, add-mul}
+use Rattle.std.proofs.Common.{arith, ext_get_or}
 use mathlib.Core.List.{map-map}
 use mathlib.Core.Path.{subst⁻¹}
 use lib.ListN.{length-map}

@@ -1,6 +1,9 @@
 -- What is entered by number from a place on: the places before it stay, and what is entered stands there. So a block that is entered is held, and stays so
 -- under what is entered behind it.
-use Rattle.std.proofs.Common.{◌≡◌, ℕ, suc, ◌+◌, ◌-◌, ◌*◌, ◌<◌, ◌≤◌, Bool, true, false, cond, ◌&&◌, eqb, List, [], ◌∷◌, ◌++◌, map, length, get_or, take, drop, set, sym, refl, ap, ◌∙◌, ap₂, append_assoc, add-zero, add-suc, suc-add, add-one, arith, length-drop, length-set, take-append-drop, length-take-le, get_or-drop, get_or-take, take-suc, take-suc-set, take_at, drop-set-lt, ext_get_or, take-add, drop_at, below_more, eq-eqb, ne_eqb, eqb-true}
+use Rattle.std.proofs.Common.{◌≡◌, ℕ, suc, ◌+◌, ◌-◌, ◌*◌, ◌<◌, ◌≤◌, Bool, true, false, cond, ◌&&◌, eqb, List, [], ◌∷◌, ◌++◌, map, length, get_or, take, drop}
+use Rattle.std.proofs.Common.{set, sym, refl, ap, ◌∙◌, ap₂, append_assoc, add-zero, add-suc, suc-add, add-one, arith, length-drop, length-set}
+use Rattle.std.proofs.Common.{take-append-drop, length-take-le, get_or-drop, get_or-take, take-suc, take-suc-set, take_at, drop-set-lt, ext_get_or, take-add}
+use Rattle.std.proofs.Common.{drop_at, below_more, eq-eqb, ne_eqb, eqb-true}
 use mathlib.Core.Bool.{and-eq-true_iff}
 use mathlib.Core.List.{map-append}
 use mathlib.Core.Path.{subst⁻¹}

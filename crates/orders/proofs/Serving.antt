@@ -1,6 +1,7 @@
 -- Of a program over the desk: its calls of `feed` one after the other, its turns one after the other, and the end. What it wrote for all that it read is the
 -- output of that.
-use Rattle.std.proofs.Common.{◌≡◌, ℕ, ◌≤◌, Bool, true, false, List, [], ◌++◌, Option, None, Some, IfSome, ◌⊎◌, inl, inr, length, take, drop, subst, sym, ap, ◌∙◌, append_assoc, drop_of_length-le, arith}
+use Rattle.std.proofs.Common.{◌≡◌, ℕ, ◌≤◌, Bool, true, false, List, [], ◌++◌, Option, None, Some, IfSome, ◌⊎◌, inl, inr, length, take, drop, subst, sym, ap}
+use Rattle.std.proofs.Common.{◌∙◌, append_assoc, drop_of_length-le, arith}
 use Rattle.std.specs.Io.KnownBytes.{Appends, Consumes, IsAtEnd}
 use Rattle.std.proofs.KnownBytes.{Appends-nil, Appends-trans, Consumes-nil, Consumes-trans}
 use lib.Seq.{slice}

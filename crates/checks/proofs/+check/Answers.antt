@@ -1,3 +1,4 @@
+-- The goals of the functions of the cycle `check`, under what stands in `Invariants.antt`.
 use mathlib.Core.Path.{ap}
 use mathlib.Core.Bool.{not}
 use mathlib.Core.Path.{refl, sym, ◌∙◌}

@@ -1,3 +1,4 @@
+-- The goals of `copies::agree`, under what stands in `Invariants.antt`.
 use Rattle.std.proofs.Common.{◌+◌, ◌≤◌, eqb, get_or, arith}
 use Rattle.copies.proofs.Entered.{at_most_one}
 use Rattle.copies.proofs.agree.Goals as goal

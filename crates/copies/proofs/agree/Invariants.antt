@@ -1,4 +1,4 @@
--- `copies::agree` meets its contract. The invariant: of the first i places all agree if i are counted, and no more are; the measure is what is left of them.
+-- `copies::agree` meets its contract. The invariant: of the first i places all agree if i are counted, and no more are.
 use Rattle.std.proofs.Common.{◌≤◌, eqb}
 use Rattle.terms.specs.Telling.{Tells}
 use Rattle.copies.specs.Copies.{Agree}

@@ -1,3 +1,4 @@
+-- The goals of `copies::copy`, under what stands in `Invariants.antt`.
 use Rattle.std.proofs.Common.{◌≡◌, ℕ, Bool, false, List, map, length, take, drop, refl, ap, ◌∙◌, arith}
 use Rattle.leaves.specs.Walk.{over}
 use Rattle.leaves.proofs.Entries.{enter_length}

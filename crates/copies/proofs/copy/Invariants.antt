@@ -1,4 +1,4 @@
--- `copies::copy` meets its contract. The invariant: the first i places are copied; the measure is what is left of them.
+-- `copies::copy` meets its contract. The invariant: the first i places are copied.
 use Rattle.std.proofs.Common.{◌≡◌, ◌≤◌}
 use Rattle.copies.specs.Copies.{copied}
 use Rattle.copies.proofs.copy.Given as goal

@@ -1,3 +1,4 @@
+-- The goals of `desk::feed`, under what stands in `Invariants.antt`.
 use mathlib.Core.Path.{sym, ◌∙◌}
 use Rattle.desk.proofs.Feeding.{one_on, no_room_left, no_byte_left}
 use Rattle.desk.proofs.feed.Goals as goal

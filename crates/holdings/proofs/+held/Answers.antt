@@ -1,3 +1,4 @@
+-- The goals of the functions of the cycle `held`, under what stands in `Invariants.antt`.
 use mathlib.Core.Bool.{true, false, not}
 use mathlib.Core.Path.{refl, sym, ap, subst, ◌∙◌}
 use Prim.Native.Nat.{◌*◌}

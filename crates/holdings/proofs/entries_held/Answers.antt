@@ -1,3 +1,4 @@
+-- The goals of `holdings::entries_held`, under what stands in `Invariants.antt`.
 use mathlib.Core.Bool.{not}
 use mathlib.Core.Path.{ap, subst}
 use Prim.Native.Nat.{ℕ}

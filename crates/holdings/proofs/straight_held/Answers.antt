@@ -1,3 +1,4 @@
+-- The goals of `holdings::straight_held`, under what stands in `Invariants.antt`.
 use mathlib.Core.Bool.{true}
 use mathlib.Core.Path.{◌≡◌, refl}
 use Prim.Native.Nat.{◌*◌}

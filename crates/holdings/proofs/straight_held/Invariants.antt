@@ -1,4 +1,4 @@
--- `holdings::straight_held` meets its contract. The invariant: the first i squares of the run are looked at; the measure is what is left of it.
+-- `holdings::straight_held` meets its contract. The invariant: the first i squares of the run are looked at.
 use mathlib.Core.Bool.{true}
 use mathlib.Core.Path.{◌≡◌}
 use Prim.Native.Nat.{◌*◌, ◌≤◌}

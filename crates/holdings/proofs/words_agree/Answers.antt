@@ -1,3 +1,4 @@
+-- The goals of `holdings::words_agree`, under what stands in `Invariants.antt`.
 use native.Mathlib.Omega.{arith}
 use lib.Dec.{eqb}
 use Rattle.copies.proofs.Entered.{at_most_one}

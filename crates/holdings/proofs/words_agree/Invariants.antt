@@ -1,4 +1,4 @@
--- `holdings::words_agree` meets its contract. The invariant: of the first i words all agree if i are counted, and no more are; the measure is what is left.
+-- `holdings::words_agree` meets its contract. The invariant: of the first i words all agree if i are counted, and no more are.
 use Prim.Native.Nat.{◌≤◌}
 use lib.Dec.{eqb}
 use Rattle.terms.specs.Telling.{Tells}

@@ -1,4 +1,4 @@
--- `layouts::entries_held` meets its contract. The invariant: the entries of the blocks before b are there; the measure is how many blocks are left.
+-- `layouts::entries_held` meets its contract. The invariant: the entries of the blocks before b are there.
 use mathlib.Core.Bool.{false}
 use mathlib.Core.Path.{◌≡◌}
 use Prim.Native.Nat.{ℕ, ◌+◌, ◌*◌, ◌≤◌, ◌<◌}

@@ -1,4 +1,4 @@
--- `layouts::frames_held` meets its contract. The invariant: the blocks before b have their frames; the measure is how many blocks are left.
+-- `layouts::frames_held` meets its contract. The invariant: the blocks before b have their frames.
 use mathlib.Core.Path.{◌≡◌}
 use Prim.Native.Nat.{◌≤◌}
 use Rattle.sectors.specs.Sectors.{words_of}

@@ -1,4 +1,4 @@
--- `layouts::numbers_held` meets its contract. The invariant: the first i numbers stand at the places of their entries; the measure is what is left of them.
+-- `layouts::numbers_held` meets its contract. The invariant: the first i numbers stand at the places of their entries.
 use mathlib.Core.Bool.{true}
 use Prim.Native.Nat.{◌≤◌}
 use Rattle.sectors.specs.Sectors.{words_of}

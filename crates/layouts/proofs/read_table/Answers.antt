@@ -1,3 +1,4 @@
+-- The goals of `layouts::read_table`, under what stands in `Invariants.antt`.
 use mathlib.Core.Path.{◌∙◌}
 use native.Mathlib.Omega.{arith}
 use Rattle.sectors.specs.Sectors.{words_of}

@@ -1,4 +1,4 @@
--- `layouts::read_table` meets its contract. The invariant: the places of the blocks before b are copied; the measure is how many blocks are left.
+-- `layouts::read_table` meets its contract. The invariant: the places of the blocks before b are copied.
 use mathlib.Core.Path.{◌≡◌}
 use Prim.Native.Nat.{ℕ, ◌*◌, ◌≤◌, ◌<◌}
 use lib.ListN.{length, get_or}

@@ -1,3 +1,4 @@
+-- The goals of `layouts::table_held`, under what stands in `Invariants.antt`.
 use mathlib.Core.Path.{ap}
 use mathlib.Core.Bool.{not}
 use mathlib.Core.Path.{◌∙◌}

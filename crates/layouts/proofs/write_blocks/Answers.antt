@@ -1,3 +1,4 @@
+-- The goals of `layouts::write_blocks`, under what stands in `Invariants.antt`.
 use mathlib.Core.Path.{◌≡◌, refl, ◌∙◌, ap}
 use Prim.Native.Nat.{ℕ}
 use native.Mathlib.Omega.{arith}

@@ -1,4 +1,4 @@
--- `layouts::write_blocks` meets its contract. The invariant: the first b blocks of the table are written behind block 0; the measure is how many are left.
+-- `layouts::write_blocks` meets its contract. The invariant: the first b blocks of the table are written behind block 0.
 use mathlib.Core.Path.{◌≡◌}
 use Prim.Native.Nat.{◌≤◌}
 use lib.ListN.{length}

@@ -27,5 +27,6 @@ compare_two-requires-2 c =
 pub returns : goal.returns
 returns c =
     over_three_deep c.requires (least_one c.args.by_square c.args.table.now) c.args.so_far (c.rung_at-low.ensures.near, c.rung_at-low.ensures.far)
-    (c.rung_at-middle.ensures.near, c.rung_at-middle.ensures.far) c.compare_two-first.ensures c.if-deep-eq2.false (c.rung_at-high.ensures.near, c.rung_at-high.ensures.far) c.compare_two-second.ensures
+    (c.rung_at-middle.ensures.near, c.rung_at-middle.ensures.far) c.compare_two-first.ensures c.if-deep-eq2.false
+    (c.rung_at-high.ensures.near, c.rung_at-high.ensures.far) c.compare_two-second.ensures
     c.compare_two-2.ensures

@@ -1,3 +1,4 @@
+-- The goals of `leaves::check_straight`, under what stands in `Invariants.antt`.
 use mathlib.Core.Path.{◌≡◌, refl}
 use native.Mathlib.Omega.{arith}
 use Rattle.division.specs.Division.{row}

@@ -1,4 +1,4 @@
--- `leaves::check_straight` meets its contract. The invariant: the first i squares of the run are looked at; the measure is what is left of it.
+-- `leaves::check_straight` meets its contract. The invariant: the first i squares of the run are looked at.
 use mathlib.Core.Path.{◌≡◌}
 use Prim.Native.Nat.{◌≤◌}
 use Rattle.leaves.specs.Walk.{least_one, over}

@@ -6,19 +6,6 @@ use Rattle.leaves.proofs.Leaves.{up_fits, top_fits, down_from_two, down_from_thr
 use Rattle.leaves.proofs.Leaves.{count_two_deep, count_three_deep, over_two_deep, over_three_deep}
 use Rattle.leaves.proofs.fill_leaf.Goals as goal
 
--- UNKNOWN OLD GOAL same-length
--- same_length : tie.Need-same-length
--- same_length c =
---     let down = c.before.before in
---     down.enter-two2.auto.0 ∙ down.before.before.before.before.before.enter-two.auto.0
-
--- UNKNOWN OLD GOAL same-length-2
--- same-length-2 : tie.Need-same-length-2
--- same-length-2 c =
---     let down = c.before.before in
---     let top = down.before.before.before.before in
---     down.enter-two4.auto.0 ∙ top.enter-two3.auto.0 ∙ top.before.before.before.before.before.before.enter-two.auto.0
-
 pub enter_two-requires : goal.enter_two-requires
 enter_two-requires c = up_fits c.requires refl c.rung_at-low.ensures.near c.rung_at-middle.ensures.near
 
@@ -27,7 +14,8 @@ enter_two-requires-then-deep-eq2 c =
     down_from_two c.requires c.enter_two.auto.table c.rung_at-middle.ensures.far c.rung_at-low.ensures.far
 
 pub returns-then-deep-eq2-clause-table : goal.returns-then-deep-eq2-clause-table
-returns-then-deep-eq2-clause-table c = over_two_deep c.requires (enter_one c.args.by_square) c.args.table.now (c.rung_at-low.ensures.near, c.rung_at-low.ensures.far) (c.rung_at-middle.ensures.near, c.rung_at-middle.ensures.far)
+returns-then-deep-eq2-clause-table c = over_two_deep c.requires (enter_one c.args.by_square) c.args.table.now
+    (c.rung_at-low.ensures.near, c.rung_at-low.ensures.far) (c.rung_at-middle.ensures.near, c.rung_at-middle.ensures.far)
     c.enter_two.ensures c.if-deep-eq2.true c.enter_two-then-deep-eq2.ensures
 
 pub returns-then-deep-eq2-clause-count : goal.returns-then-deep-eq2-clause-count
@@ -43,7 +31,8 @@ enter_two-requires-3 c =
     c.rung_at-low.ensures.far
 
 pub returns-clause-table : goal.returns-clause-table
-returns-clause-table c = over_three_deep c.requires (enter_one c.args.by_square) c.args.table.now (c.rung_at-low.ensures.near, c.rung_at-low.ensures.far) (c.rung_at-middle.ensures.near, c.rung_at-middle.ensures.far)
+returns-clause-table c = over_three_deep c.requires (enter_one c.args.by_square) c.args.table.now (c.rung_at-low.ensures.near, c.rung_at-low.ensures.far)
+    (c.rung_at-middle.ensures.near, c.rung_at-middle.ensures.far)
     c.enter_two.ensures c.if-deep-eq2.false (c.rung_at-high.ensures.near, c.rung_at-high.ensures.far) c.enter_two-2.ensures c.enter_two-3.ensures
 
 pub returns-clause-count : goal.returns-clause-count

@@ -1,3 +1,4 @@
+-- The goals of `leaves::fill_straight`, under what stands in `Invariants.antt`.
 use mathlib.Core.Bool.{Bool}
 use mathlib.Core.List.{List}
 use mathlib.Core.Path.{◌≡◌, refl, ap, ◌∙◌}

@@ -1,4 +1,4 @@
--- `leaves::fill_straight` meets its contract. The invariant: the first i squares of the run are entered; the measure is what is left of it.
+-- `leaves::fill_straight` meets its contract. The invariant: the first i squares of the run are entered.
 use mathlib.Core.Path.{◌≡◌}
 use Prim.Native.Nat.{◌≤◌}
 use Rattle.leaves.specs.Walk.{enter_one, over}

@@ -1,3 +1,4 @@
+-- The goals of `replies::put_number`, under what stands in `Invariants.antt`.
 use mathlib.Core.Path.{sym, ap}
 use Prim.Native.Nat.{◌+◌, ◌%◌}
 use native.Mathlib.Omega.{arith}

@@ -1,3 +1,4 @@
+-- The goals of `replies::put_bytes`, under what stands in `Invariants.antt`.
 use native.Mathlib.Omega.{arith}
 use Rattle.replies.proofs.Writing.{writes_next, writes_all}
 use Rattle.replies.proofs.put_bytes.Goals as goal

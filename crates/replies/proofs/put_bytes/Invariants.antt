@@ -1,4 +1,4 @@
--- `replies::put_bytes` meets its contract: after i turns the first i bytes are written; the measure is what is left of them.
+-- `replies::put_bytes` meets its contract: after i turns the first i bytes are written.
 use Prim.Native.Nat.{◌+◌, ◌≤◌}
 use lib.ListN.{take}
 use Rattle.replies.specs.Text.{Writes}

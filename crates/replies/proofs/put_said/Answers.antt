@@ -1,3 +1,4 @@
+-- The goals of `replies::put_said`, under what stands in `Invariants.antt`.
 use native.Mathlib.Omega.{arith}
 use Rattle.replies.proofs.Writing.{writes_both, numbered_none, numbered_next, numbered_all}
 use Rattle.replies.proofs.put_said.Goals as goal

@@ -1,4 +1,4 @@
--- `replies::put_said` meets its contract: after i turns the word and the first i numbers are written; the measure is how many are left.
+-- `replies::put_said` meets its contract: after i turns the word and the first i numbers are written.
 use Rattle.replies.proofs.Writing.{Numbered}
 use Rattle.replies.proofs.put_said.Given as goal
 

@@ -1,3 +1,4 @@
+-- The goals of the functions of the cycle `stretch`, under what stands in `Invariants.antt`.
 use mathlib.Core.Path.{refl, sym, ◌∙◌}
 use Rattle.leaves.proofs.PartByPart.{first_call, second_call, second_number, long_steps, a_call, b_call, c_call, u_numbers, u_steps}
 use Rattle.leaves.proofs.PartByPart.{side_call, side_over}

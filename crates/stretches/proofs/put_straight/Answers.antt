@@ -1,3 +1,4 @@
+-- The goals of `stretches::put_straight`, under what stands in `Invariants.antt`.
 use mathlib.Core.List.{map}
 use mathlib.Core.Path.{refl, ◌∙◌}
 use native.Mathlib.Omega.{arith}

@@ -1,5 +1,4 @@
--- `stretches::put_straight` meets its contract. The invariant: the first i squares of the run are put in, of which those before the stretch change nothing; the
--- measure is what is left up to the stretch's end.
+-- `stretches::put_straight` meets its contract. The invariant: the first i squares of the run are put in, of which those before the stretch change nothing.
 use mathlib.Core.List.{map}
 use mathlib.Core.Path.{◌≡◌}
 use Prim.Native.Nat.{◌≤◌}
