@@ -11,10 +11,9 @@ use lib.Dec.{eqb}
 use lib.ListN.{length}
 use Rattle.terms.specs.declared.Refusal.{Refusal}
 use Rattle.terms.specs.declared.Refusal.TheVariants.{AreaLimit}
-use Rattle.terms.specs.declared.Admission.{Admission}
-use Rattle.terms.specs.declared.Admission.TheVariants.{Granted, Refused}
+use Rattle.std.specs.Prelude.{Result, Ok, Err, IsErr, IsErrAnd}
 use Rattle.terms.specs.Terms.{refusal_number, Figures, answered, refused, refused_with}
-use Rattle.terms.specs.Guards.{Guard, ◌else◌, admitted, padded, guarded, then_guard, first, rest}
+use Rattle.terms.specs.Guards.{Guard, ◌else◌, Admission, granted, admitted, padded, guarded, first, rest}
 use Rattle.terms.proofs.Refusals.{refusal_one, refusal_some}
 
 -- Facts, one for each guard of a list, as the list itself is written: they are nested pairs.
@@ -46,32 +45,32 @@ Fails [] r = ⊥
 Fails (g ∷ gs) r = AtGuard (same g.refusal r) (stands r gs) (g.holds ≡ true) (g.holds ≡ false) (Fails gs r)
 
 -- granted exactly if all pass
-pub passed : (gs : List Guard) → admitted gs ≡ Granted → Passed gs
+pub passed : (gs : List Guard) → admitted gs ≡ granted → Passed gs
 passed [] e = tt
 passed (g ∷ []) e = by g.holds e
   where
-    by : (t : Bool) → cond t Granted (Refused g.refusal) ≡ Granted → t ≡ true
+    by : (t : Bool) → cond t granted (Err g.refusal) ≡ granted → t ≡ true
     by true e = refl
     by false e = absurd (let z : ◌≡◌ {A = ℕ} 0 1 = cc in omega arith)
 passed (g ∷ h ∷ gs) e = by g.holds e (passed (h ∷ gs))
   where
-    by : (t : Bool) → cond t (admitted (h ∷ gs)) (Refused g.refusal) ≡ Granted → (admitted (h ∷ gs) ≡ Granted → Passed (h ∷ gs))
+    by : (t : Bool) → cond t (admitted (h ∷ gs)) (Err g.refusal) ≡ granted → (admitted (h ∷ gs) ≡ granted → Passed (h ∷ gs))
         → (t ≡ true) × Passed (h ∷ gs)
     by true e rest = (refl, rest e)
     by false e rest = absurd (let z : ◌≡◌ {A = ℕ} 0 1 = cc in omega arith)
 
-pub all_pass : (gs : List Guard) → Passed gs → admitted gs ≡ Granted
+pub all_pass : (gs : List Guard) → Passed gs → admitted gs ≡ granted
 all_pass [] p = refl
 all_pass (g ∷ []) p = rw p
 all_pass (g ∷ h ∷ gs) p = rw p.0 (all_pass (h ∷ gs) p.1)
 
 -- what refuses stands in the list
-stands_there : (gs : List Guard) (r : Refusal) → admitted gs ≡ Refused r → stands r gs ≡ true
+stands_there : (gs : List Guard) (r : Refusal) → admitted gs ≡ Err r → stands r gs ≡ true
 stands_there [] r e = absurd (let z : ◌≡◌ {A = ℕ} 0 1 = cc in omega arith)
 stands_there (g ∷ gs) r e = by g.holds (same g.refusal r) refl e (stands_there gs r)
   where
-    by : (t here : Bool) → same g.refusal r ≡ here → cond t (admitted gs) (Refused g.refusal) ≡ Refused r
-        → (admitted gs ≡ Refused r → stands r gs ≡ true) → here || stands r gs ≡ true
+    by : (t here : Bool) → same g.refusal r ≡ here → cond t (admitted gs) (Err g.refusal) ≡ Err r
+        → (admitted gs ≡ Err r → stands r gs ≡ true) → here || stands r gs ≡ true
     by t true is e rest = refl
     by true false is e rest = rest e
     by false false is e rest =
@@ -79,12 +78,12 @@ stands_there (g ∷ gs) r e = by g.holds (same g.refusal r) refl e (stands_there
         absurd (eqb-false (refusal_number g.refusal) (refusal_number r) is (ap refusal_number one))
 
 -- refused with r exactly if the guards before r's pass and r's fails
-pub fails : (gs : List Guard) (r : Refusal) → admitted gs ≡ Refused r → Fails gs r
+pub fails : (gs : List Guard) (r : Refusal) → admitted gs ≡ Err r → Fails gs r
 fails [] r e = absurd (let z : ◌≡◌ {A = ℕ} 0 1 = cc in omega arith)
 fails (g ∷ gs) r e = by g.holds (same g.refusal r) (stands r gs) refl refl e (fails gs r)
   where
-    by : (t here later : Bool) → same g.refusal r ≡ here → stands r gs ≡ later → cond t (admitted gs) (Refused g.refusal) ≡ Refused r
-        → (admitted gs ≡ Refused r → Fails gs r) → AtGuard here later (t ≡ true) (t ≡ false) (Fails gs r)
+    by : (t here later : Bool) → same g.refusal r ≡ here → stands r gs ≡ later → cond t (admitted gs) (Err g.refusal) ≡ Err r
+        → (admitted gs ≡ Err r → Fails gs r) → AtGuard here later (t ≡ true) (t ≡ false) (Fails gs r)
     by false true true is l e rest = inl refl
     by false true false is l e rest = refl
     by false false later is l e rest =
@@ -94,21 +93,21 @@ fails (g ∷ gs) r e = by g.holds (same g.refusal r) (stands r gs) refl refl e (
     by true true false is l e rest = sym (stands_there gs r e) ∙ l
     by true false later is l e rest = (refl, rest e)
 
-pub refuses : (gs : List Guard) (r : Refusal) → Fails gs r → admitted gs ≡ Refused r
+pub refuses : (gs : List Guard) (r : Refusal) → Fails gs r → admitted gs ≡ Err r
 refuses [] r f = elim f [ ]
 refuses (g ∷ gs) r f = by g.holds (same g.refusal r) (stands r gs) refl f (refuses gs r)
   where
-    by : (t here later : Bool) → same g.refusal r ≡ here → AtGuard here later (t ≡ true) (t ≡ false) (Fails gs r) → (Fails gs r → admitted gs ≡ Refused r)
-        → cond t (admitted gs) (Refused g.refusal) ≡ Refused r
-    by t true true is (inl f) rest = rw f (ap Refused (refusal_one g.refusal r (eqb-true (refusal_number g.refusal) (refusal_number r) is)))
+    by : (t here later : Bool) → same g.refusal r ≡ here → AtGuard here later (t ≡ true) (t ≡ false) (Fails gs r) → (Fails gs r → admitted gs ≡ Err r)
+        → cond t (admitted gs) (Err g.refusal) ≡ Err r
+    by t true true is (inl f) rest = rw f (ap Err (refusal_one g.refusal r (eqb-true (refusal_number g.refusal) (refusal_number r) is)))
     by t true true is (inr f) rest = rw f.0 (rest f.1)
-    by t true false is f rest = rw f (ap Refused (refusal_one g.refusal r (eqb-true (refusal_number g.refusal) (refusal_number r) is)))
+    by t true false is f rest = rw f (ap Err (refusal_one g.refusal r (eqb-true (refusal_number g.refusal) (refusal_number r) is)))
     by t false later is f rest = rw f.0 (rest f.1)
 
 -- A call's figures by its admission: its values where it is granted, else the refusal.
 pub number_of : Admission → ℕ
-number_of Granted = 0
-number_of (Refused r) = refusal_number r
+number_of (Ok u) = 0
+number_of (Err r) = refusal_number r
 
 guarded_number : (gs : List Guard) (n : ℕ) (values : List ℕ) → (guarded gs n values).refusal ≡ number_of (admitted gs)
 unfolding number_of
@@ -116,7 +115,7 @@ guarded_number [] n values = refl
 guarded_number (g ∷ gs) n values = by g.holds (guarded_number gs n values)
   where
     by : (t : Bool) → (guarded gs n values).refusal ≡ number_of (admitted gs)
-        → (cond t (guarded gs n values) (refused_with g.refusal (padded n g.tells))).refusal ≡ number_of (cond t (admitted gs) (Refused g.refusal))
+        → (cond t (guarded gs n values) (refused_with g.refusal (padded n g.tells))).refusal ≡ number_of (cond t (admitted gs) (Err g.refusal))
     by true rest = rest
     by false rest = refl
 
@@ -126,18 +125,18 @@ module _ (gs : List Guard) (n : ℕ) (values : List ℕ) where
   unfolding number_of
   refused_exactly r = (λ e. fails gs r (by (admitted gs) (sym (guarded_number gs n values) ∙ e)), λ f. guarded_number gs n values ∙ rw (refuses gs r f))
     where
-      by : (j : Admission) → number_of j ≡ refusal_number r → j ≡ Refused r
-      by Granted e = absurd (refusal_some r (sym e))
-      by (Refused s) e = ap Refused (refusal_one s r e)
+      by : (j : Admission) → number_of j ≡ refusal_number r → j ≡ Err r
+      by (Ok u) e = absurd (refusal_some r (sym e))
+      by (Err s) e = ap Err (refusal_one s r e)
 
   -- Answered exactly if all pass, and then with the values.
   pub answered_exactly : ((guarded gs n values).refusal ≡ 0) ↔ Passed gs
   unfolding number_of
   answered_exactly = (λ e. passed gs (by (admitted gs) (sym (guarded_number gs n values) ∙ e)), λ p. guarded_number gs n values ∙ rw (all_pass gs p))
     where
-      by : (j : Admission) → number_of j ≡ 0 → j ≡ Granted
-      by Granted e = refl
-      by (Refused s) e = absurd (refusal_some s e)
+      by : (j : Admission) → number_of j ≡ 0 → j ≡ granted
+      by (Ok u) e = refl
+      by (Err s) e = absurd (refusal_some s e)
 
 pub answered_so : (gs : List Guard) (n : ℕ) (values : List ℕ) → Passed gs → guarded gs n values ≡ answered values
 answered_so [] n values p = refl
@@ -153,8 +152,8 @@ never gs r n values none e =
 
 -- What a call answers by the admission of its first guards, which tell nothing, and by the others after them.
 abbrev pub as_admitted : Admission → (n : ℕ) → Figures → Figures
-as_admitted Granted n answer = answer
-as_admitted (Refused r) n answer = refused r n
+as_admitted (Ok u) n answer = answer
+as_admitted (Err r) n answer = refused r n
 
 abbrev none : List ℕ → Bool
 none [] = true
@@ -173,7 +172,7 @@ by_admission (suc k) (g ∷ gs) n values q = by g.holds g.tells q (by_admission 
     by : (t : Bool) (told : List ℕ) → none told && quiet (first k gs) ≡ true
         → (quiet (first k gs) ≡ true → guarded gs n values ≡ as_admitted (admitted (first k gs)) n (guarded (rest k gs) n values))
         → cond t (guarded gs n values) (refused_with g.refusal (padded n told))
-        ≡ as_admitted (cond t (admitted (first k gs)) (Refused g.refusal)) n (guarded (rest k gs) n values)
+        ≡ as_admitted (cond t (admitted (first k gs)) (Err g.refusal)) n (guarded (rest k gs) n values)
     by true [] q later = later q
     by false [] q later = refl
     by t (v ∷ vs) q later = absurd (let z : ◌≡◌ {A = ℕ} 0 1 = cc in omega arith)
@@ -213,10 +212,10 @@ refused_silent (g ∷ gs) n values r q e = by g.holds (same g.refusal r) g.tells
     by t true (v ∷ vs) is q e later = absurd (let z : ◌≡◌ {A = ℕ} 0 1 = cc in omega arith)
 
 module _ (k : ℕ) (gs : List Guard) (n : ℕ) (values : List ℕ) (q : quiet (first k gs) ≡ true) where
-  pub refused_first : (r : Refusal) → admitted (first k gs) ≡ Refused r → refused r n ≡ guarded gs n values
+  pub refused_first : (r : Refusal) → admitted (first k gs) ≡ Err r → refused r n ≡ guarded gs n values
   refused_first r e = sym (by_admission k gs n values q ∙ ap (λ (j : Admission). as_admitted j n (guarded (rest k gs) n values)) e)
 
-  pub granted_first : admitted (first k gs) ≡ Granted → guarded (rest k gs) n values ≡ guarded gs n values
+  pub granted_first : admitted (first k gs) ≡ granted → guarded (rest k gs) n values ≡ guarded gs n values
   granted_first e = sym (by_admission k gs n values q ∙ ap (λ (j : Admission). as_admitted j n (guarded (rest k gs) n values)) e)
 
 -- Two lists that have the same guards, one by one: of lists that are written out, an equation for each guard. So a law on two calls repeats no list.
@@ -244,36 +243,36 @@ alone k r [] = false
 alone zero r (g ∷ gs) = same g.refusal r && not (stands r gs)
 alone (suc k) r (g ∷ gs) = not (same g.refusal r) && alone k r gs
 
+abbrev then_guard : Admission → Guard → Admission
+then_guard (Ok u) g = cond g.holds granted (Err g.refusal)
+then_guard (Err r) g = Err r
+
 one_more : (gs : List Guard) (n : ℕ) → n < length gs → then_guard (admitted (first n gs)) (nth n gs) ≡ admitted (first (suc n) gs)
 one_more [] n l = absurd (omega arith)
 one_more (g ∷ gs) zero l = refl
 one_more (g ∷ gs) (suc n) l = by g.holds (one_more gs n (omega arith))
   where
     by : (t : Bool) → then_guard (admitted (first n gs)) (nth n gs) ≡ admitted (first (suc n) gs)
-        → then_guard (cond t (admitted (first n gs)) (Refused g.refusal)) (nth n gs) ≡ cond t (admitted (first (suc n) gs)) (Refused g.refusal)
+        → then_guard (cond t (admitted (first n gs)) (Err g.refusal)) (nth n gs) ≡ cond t (admitted (first (suc n) gs)) (Err g.refusal)
     by true later = later
     by false later = refl
 
-pub next : (gs : List Guard) (n : ℕ) {told : Bool} {j k : Admission} → n < length gs → j ≡ admitted (first n gs)
-    → k ≡ then_guard j (told else (nth n gs).refusal) → (Passed (first n gs) → told ≡ (nth n gs).holds) → k ≡ admitted (first (suc n) gs)
-next gs n {told} {j} {k} l is step right =
+pub next : (gs : List Guard) (n : ℕ) {told : Bool} {k : Admission} → n < length gs → admitted (first n gs) ≡ granted
+    → k ≡ admitted (told else (nth n gs).refusal ∷ []) → (Passed (first n gs) → told ≡ (nth n gs).holds) → k ≡ admitted (first (suc n) gs)
+next gs n l granted step right =
     step
-    ∙ ap (λ (i : Admission). then_guard i (told else (nth n gs).refusal)) is
-    ∙ by (admitted (first n gs)) refl
+    ∙ ap (λ (t : Bool). admitted (t else (nth n gs).refusal ∷ [])) (right (passed (first n gs) granted))
+    ∙ ap (λ (i : Admission). then_guard i (nth n gs)) (sym granted)
     ∙ one_more gs n l
-  where
-    by : (i : Admission) → admitted (first n gs) ≡ i → then_guard i (told else (nth n gs).refusal) ≡ then_guard i (nth n gs)
-    by Granted e = ap (λ (t : Bool). cond t Granted (Refused (nth n gs).refusal)) (right (passed (first n gs) e))
-    by (Refused s) e = refl
 
 -- a guard that holds wherever those before it passed need not be tried
 pub untried : (gs : List Guard) (n : ℕ) {j : Admission} → n < length gs → j ≡ admitted (first n gs) → (Passed (first n gs) → (nth n gs).holds ≡ true)
     → j ≡ admitted (first (suc n) gs)
-untried gs n {j} l is holds = next gs n l is (by j) (λ p. sym (holds p))
+untried gs n l is holds = is ∙ by (admitted (first n gs)) refl ∙ one_more gs n l
   where
-    by : (j : Admission) → j ≡ then_guard j (true else (nth n gs).refusal)
-    by Granted = refl
-    by (Refused r) = refl
+    by : (j : Admission) → admitted (first n gs) ≡ j → j ≡ then_guard j (nth n gs)
+    by (Ok u) e = ap (λ (t : Bool). cond t granted (Err (nth n gs).refusal)) (sym (holds (passed (first n gs) e)))
+    by (Err r) e = refl
 
 -- what guard k tells where it refuses, and its refusal stands nowhere else
 pub told_at : (gs : List Guard) (k n : ℕ) (values : List ℕ) (r : Refusal) → alone k r gs ≡ true → (guarded gs n values).refusal ≡ refusal_number r
@@ -297,3 +296,8 @@ told_at (g ∷ gs) (suc k) n values r a e = by g.holds (same g.refusal r) refl a
     by true false is a e later = later a e
     by false false is a e later = absurd (eqb-false (refusal_number g.refusal) (refusal_number r) is e)
     by t true is a e later = absurd (let z : ◌≡◌ {A = ℕ} 0 1 = cc in omega arith)
+
+-- what `?` hands on of a refusal is that refusal
+pub handed_on : {T : Type 0} {r : Result T Refusal} {s : Refusal} → IsErr r × IsErrAnd r (λ t. t ≡ s) → r ≡ Err s
+handed_on {r = Ok v} p = absurd p.1
+handed_on {r = Err t} p = ap Err p.1

@@ -7,11 +7,11 @@ use native.Mathlib.Omega.{arith}
 use borrow.Author.Tests.{leb-true}
 use lib.Dec.{leb}
 use Rattle.terms.specs.declared.Area.{Area}
-use Rattle.terms.specs.declared.Admission.TheVariants.{Granted, Refused}
+use Rattle.std.specs.Prelude.{Err}
 use Rattle.terms.specs.declared.Refusal.{Refusal}
 use Rattle.terms.specs.Terms.{longest_side, most_squares, past_32_bits, length_accepted, lengths_accepted, squares_accepted, accepted, Limits}
 use Rattle.terms.specs.Terms.{offset_accepted, origin_accepted, at_post, grid_accepted}
-use Rattle.terms.specs.Guards.{admitted, grid_guards}
+use Rattle.terms.specs.Guards.{granted, admitted, grid_guards}
 use Rattle.terms.proofs.Guards.{◌and◌, passed, all_pass}
 
 -- its guards
@@ -61,10 +61,10 @@ grid_guards_passed area e =
     (two.0, two.1, both.1)
 
 -- and as the guards of an area on the grid admit it
-pub on_grid : (area : Area) → admitted (grid_guards area) ≡ Granted → grid_accepted area ≡ true
+pub on_grid : (area : Area) → admitted (grid_guards area) ≡ granted → grid_accepted area ≡ true
 on_grid area e = let tests = passed (grid_guards area) e in all_accepted area tests.0 tests.1.0 tests.1.1
 
-pub off_grid : (area : Area) (r : Refusal) → admitted (grid_guards area) ≡ Refused r → grid_accepted area ≡ false
+pub off_grid : (area : Area) (r : Refusal) → admitted (grid_guards area) ≡ Err r → grid_accepted area ≡ false
 off_grid area r e = by (grid_accepted area) refl
   where
     by : (t : Bool) → grid_accepted area ≡ t → grid_accepted area ≡ false

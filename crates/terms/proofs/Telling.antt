@@ -2,11 +2,8 @@
 -- they are one.
 use mathlib.Core.Bool.{Bool, true, false, not, and-eq-true_iff}
 use mathlib.Core.List.{List, [], ◌∷◌}
-use mathlib.Core.Logic.{◌⊎◌, inl, inr, ⊎_elim}
 use mathlib.Core.Path.{◌≡◌, refl, sym, ap₂, subst, ◌∙◌}
-use Prim.Native.Nat.{ℕ, ◌+◌, ◌≤◌, ◌<◌}
-use native.Mathlib.Nat.{eq-or-lt_of_le, le_of_suc-le-suc}
-use native.Mathlib.Numerals.{add-one}
+use Prim.Native.Nat.{ℕ}
 use native.Mathlib.Omega.{arith}
 use borrow.Author.Tests.{eqb-true, eq-eqb, not-true, not-false}
 use lib.Dec.{eqb}
@@ -34,28 +31,6 @@ tells_equal x y to from = ((λ e. to (eqb-true x y e)), λ p. eq-eqb x y (from p
 
 pub tells_so : {P Q : Type 0} {r : Bool} → Tells r P → (P → Q) → (Q → P) → Tells r Q
 tells_so tells to from = ((λ e. to (tells.0 e)), λ q. tells.1 (from q))
-
--- what holds of all below j, and of j, holds of all below j + 1; so from u on
-pub between_more : (P : ℕ → Type 0) (u j : ℕ) → ((i : ℕ) → u ≤ i → i < j → P i) → P j → (i : ℕ) → u ≤ i → i < j + 1 → P i
-between_more P u j all here i m l =
-    ⊎_elim (λ e. subst P (sym e) here) (λ lt. all i m lt) (eq-or-lt_of_le (le_of_suc-le-suc (subst (λ (k : ℕ). i < k) (add-one j) l)))
-
--- a count of those that hold, beside how many were looked at: one more of both where P j holds, else of the latter alone
-pub counted_more : (P : ℕ → Type 0) (j same more : ℕ) → same ≤ j → Tells (eqb same j) ((i : ℕ) → i < j → P i)
-    → (P j × (more ≡ same + 1)) ⊎ ((P j → ⊥) × (more ≡ same))
-    → (more ≤ j + 1) × Tells (eqb more (j + 1)) ((i : ℕ) → i < j + 1 → P i)
-counted_more P j same more few so_far (inl right) = let one = right.1 in (omega arith, tells_equal more (j + 1) all counted)
-  where
-    all : more ≡ j + 1 → (i : ℕ) → i < j + 1 → P i
-    all e i l =
-        let one = right.1 in
-        between_more P 0 j (λ k z m. so_far.0 (eq-eqb same j (omega arith)) k m) right.0 i (omega arith) l
-
-    counted : ((i : ℕ) → i < j + 1 → P i) → more ≡ j + 1
-    counted ps = let one = right.1 in let is = eqb-true same j (so_far.1 (λ i l. ps i (omega arith))) in omega arith
-counted_more P j same more few so_far (inr wrong) =
-    let none = wrong.1 in
-    (omega arith, tells_equal more (j + 1) (λ e. absurd (omega arith)) (λ ps. absurd (wrong.0 (ps j (omega arith)))))
 
 -- lists are the same exactly if their comparison says so
 pub same_so : (xs ys : List ℕ) → same_numbers xs ys ≡ true → xs ≡ ys

@@ -1,11 +1,9 @@
 -- "The first refusal that applies": a call has its guards as a list, in the order in which the documents name them. From the list come whether the call is
 -- admitted and what it answers: document 01, "Refusal numbers", "the number, all else 0". Each call's own list stands where the call is defined.
-use Rattle.std.specs.Prelude.{Bool, cond, List, [], ◌∷◌, ℕ, zero, suc, ◌*◌, replicate}
+use Rattle.std.specs.Prelude.{Bool, cond, List, [], ◌∷◌, ℕ, zero, suc, ◌*◌, replicate, Result, Ok, Err, ⊤}
 use Rattle.terms.specs.declared.Area.{Area}
 use Rattle.terms.specs.declared.Refusal.{Refusal}
 use Rattle.terms.specs.declared.Refusal.TheVariants.{AreaLimit, OriginLimit, TooManySquares}
-use Rattle.terms.specs.declared.Admission.{Admission}
-use Rattle.terms.specs.declared.Admission.TheVariants.{Granted, Refused}
 use Rattle.terms.specs.Terms.{lengths_accepted, squares_accepted, origin_accepted, Figures, answered, refused_with}
 
 -- A test, the refusal of what does not pass it, and what that tells besides its number: nothing, but of 11 "the number of runs".
@@ -22,10 +20,17 @@ test else r = record { holds = test; refusal = r; tells = [] }
 abbrev pub ◌telling◌ : Guard → List ℕ → Guard
 g telling values = record { holds = g.holds; refusal = g.refusal; tells = values }
 
+-- Whether a call goes on, or why it does not.
+abbrev pub Admission : Type 0
+Admission = Result ⊤ Refusal
+
+abbrev pub granted : Admission
+granted = Ok tt
+
 -- The first guard that fails refuses; where all pass, the call is granted.
 abbrev pub admitted : List Guard → Admission
-admitted [] = Granted
-admitted (g ∷ gs) = cond g.holds (admitted gs) (Refused g.refusal)
+admitted [] = granted
+admitted (g ∷ gs) = cond g.holds (admitted gs) (Err g.refusal)
 
 -- What a call with these guards answers: its values where all pass; else the refusal's number, what it tells, and 0 for all else of n values.
 abbrev pub padded : ℕ → List ℕ → List ℕ
@@ -37,11 +42,7 @@ abbrev pub guarded : List Guard → (n : ℕ) → (values : List ℕ) → Figure
 guarded [] n values = answered values
 guarded (g ∷ gs) n values = cond g.holds (guarded gs n values) (refused_with g.refusal (padded n g.tells))
 
--- As the code goes through a list: one guard more, after those that were tried; the first n guards; and those after them.
-abbrev pub then_guard : Admission → Guard → Admission
-then_guard Granted g = cond g.holds Granted (Refused g.refusal)
-then_guard (Refused r) g = Refused r
-
+-- As the code goes through a list: the first n guards, and those after them.
 abbrev pub first : ℕ → List Guard → List Guard
 first zero gs = []
 first (suc n) [] = []

@@ -1,6 +1,6 @@
 -- The terms that every contract uses: which areas and origins are accepted, the refusals' numbers, and an answer's figures on paper.
 -- Document 01, "What is bought" and "Refusal numbers", the refusals of document 02, order 2, the origin of its order 6 and the limit of its order 7.
-use Rattle.std.specs.Prelude.{Bool, false, ◌&&◌, List, [], ◌∷◌, ℕ, ◌*◌, ◌≤◌, leb, ltb, ℤ, pos, negsuc, replicate}
+use Rattle.std.specs.Prelude.{Bool, false, ◌&&◌, List, [], ◌∷◌, ℕ, ◌*◌, ◌≤◌, leb, ltb, ℤ, pos, negsuc, replicate, Option, Some, None}
 use Rattle.std.specs.Int.Signed.{le_z}
 use Rattle.terms.specs.declared.Area.{Area}
 use Rattle.terms.specs.declared.Refusal.{Refusal}
@@ -121,7 +121,12 @@ in_signs (n ∷ ns) = pos n ∷ in_signs ns
 abbrev pub signed : Figures → SignedFigures
 signed f = record { refusal = f.refusal; values = in_signs f.values }
 
--- How far a place lies east or north of the origin, from the difference; for a negative one a number that is no area's x or y. It renders no sentence.
+-- How far a place lies east or north of the origin, from the difference, if that is not negative.
+abbrev pub natural : ℤ → Option ℕ
+natural (pos d) = Some d
+natural (negsuc d) = None
+
+-- The same; for a negative difference a number that is no area's x or y. It renders no sentence.
 abbrev pub beyond_any_area : ℕ
 beyond_any_area = 4294967295
 
