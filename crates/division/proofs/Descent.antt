@@ -151,6 +151,9 @@ row_more d (suc n) s =
 pub straight_holding : (k : Block) (p : Square) → Sized k → parts k ≡ [] → holds k p ≡ true → blocks_holding k p ≡ 1
 straight_holding k p s e held = holding_rule k p s ∙ rw (e, held)
 
+pub some_holding : (k : Block) (p : Square) → Sized k → holds k p ≡ true → 1 ≤ blocks_holding k p
+some_holding k p s held = let sum = holding_rule k p s in let itself : one (holds k p) ≡ 1 = rw held in omega arith
+
 pub run_square : (k : Block) → curve k ≡ row k.run k.a k.start → (n : ℕ) → n < k.a → square_of k n ≡ moved k.run n k.start
 unfolding square_of
 run_square k c n l = ap (λ zs. get_or zs n (square 0 0)) c ∙ row_at k.run k.a n k.start (square 0 0) l

@@ -1,18 +1,18 @@
--- The two forms in which the code holds a block, by their fields: the parts of a placed block, by the two bits of its directions, and of a spot; steps that
+-- A placed block by its fields: the parts of a placed block, by the two bits of its directions; steps that
 -- stay coordinates in a block that lies inside; two placed blocks that stand for one block are one.
 use mathlib.Core.Bool.{Bool, true, false, not, cond}
-use mathlib.Core.Path.{◌≡◌, refl, sym, ap, ap₂, subst⁻¹, ◌∙◌}
-use Prim.Native.Nat.{ℕ, ◌-◌, ◌/◌, ◌≤◌, ◌<◌}
+use mathlib.Core.Path.{◌≡◌, refl, sym, ap, ap₂, ◌∙◌}
+use Prim.Native.Nat.{ℕ, ◌-◌, ◌/◌, ◌<◌}
 use native.Mathlib.Nat.{add-zero, sub-zero}
 use native.Mathlib.Omega.{arith}
-use borrow.Author.Tests.{ltb-false}
-use lib.Dec.{ltb}
 use Rattle.terms.specs.Terms.{longest_side}
+use Rattle.division.specs.declared.Choice.TheVariants.{LongCut, UCut}
 use Rattle.division.specs.declared.Placed.{Placed}
-use Rattle.division.specs.declared.Spot.{Spot}
 use Rattle.division.specs.Division.{square, Direction, +x, +y, -x, -y, Block, even_half, First, Second, A, B, C, part, moved, against}
 use Rattle.division.specs.Division.Inside.{Room, Inside}
-use Rattle.division.specs.Forms.{direction, block, block_at, stepped_to, Steps, seen_in}
+use Rattle.division.proofs.Rules.{Halves, halves}
+use Rattle.division.proofs.Cases.{long_lengths, u_lengths}
+use Rattle.division.specs.Forms.{direction, block, block_at, CutBy, stepped_to, Steps}
 
 -- steps of less than the run's length, and of less than the side's, stay within the area
 steps_by : (along across : ℕ) (turned back : Bool) (a n : ℕ)
@@ -32,6 +32,13 @@ steps_across_by along across true back b n r l = steps_by across along false bac
 
 pub steps_across : (k : Placed) → Inside longest_side longest_side (block k) → (n : ℕ) → n < k.b → Steps k.across n k.back
 steps_across k i n l = steps_across_by k.along k.across k.turned k.back k.b n i.side l
+
+-- the even half of the length that a cut goes by is a proper part of it
+pub half_run : (k : Placed) → CutBy LongCut k → Halves k.a (even_half k.a)
+half_run k cut = halves k.a (long_lengths (block k) cut.0.sized cut.1).0
+
+pub half_side : (k : Placed) → CutBy UCut k → Halves k.b (even_half k.b)
+half_side k cut = halves k.b (u_lengths (block k) cut.0.sized cut.1).1
 
 -- the parts of a placed block, each by the two bits of its directions
 long_by : (along across a b : ℕ) (turned back second : Bool)
@@ -97,27 +104,6 @@ c_block k e up last p q r =
     let is_up : up ≡ stepped_to k.across (even_half k.b - 1) k.back = q ∙ ap (λ n. stepped_to k.across (n - 1) k.back) p in
     (λ i. block_at (is_up i) (r i) (not k.turned) (not k.back) (p i) (k.a - k.a / 2))
     ∙ c_by k.along k.across k.a k.b k.turned k.back
-
--- the long cut's part that holds a spot
-long_spot_by : (s : Spot) (first : Bool)
-    → ◌≡◌ {A = Spot}
-    (record { a = cond first (even_half s.a) (s.a - even_half s.a); b = s.b; u = s.u - cond first 0 (even_half s.a); v = s.v })
-    (seen_in (cond first First Second) s)
-long_spot_by s true = rw sub-zero
-long_spot_by s false = refl
-
-pub long_spot : (s : Spot) (e run skip : ℕ) → e ≡ even_half s.a → run ≡ cond (ltb s.u e) e (s.a - e) → skip ≡ cond (ltb s.u e) 0 e
-    → ◌≡◌ {A = Spot} (record { a = run; b = s.b; u = s.u - skip; v = s.v }) (seen_in (cond (ltb s.u (even_half s.a)) First Second) s)
-long_spot s e run skip p q r =
-    (λ i. record { a = (q ∙ ap (λ n. cond (ltb s.u n) n (s.a - n)) p) i; b = s.b; u = s.u - (r ∙ ap (λ n. cond (ltb s.u n) 0 n) p) i; v = s.v })
-    ∙ long_spot_by s (ltb s.u (even_half s.a))
-
-skip_by : (u e : ℕ) (t : Bool) → ltb u e ≡ t → cond t 0 e ≤ u
-skip_by u e true p = omega arith
-skip_by u e false p = ltb-false u e p
-
-pub skip_within : (u e skip : ℕ) → skip ≡ cond (ltb u e) 0 e → skip ≤ u
-skip_within u e skip p = subst⁻¹ (λ (n : ℕ). n ≤ u) p (skip_by u e (ltb u e) refl)
 
 -- a square n steps along the run, or along the side, of a placed block
 pub run_moved : (along across : ℕ) (turned back : Bool) (n : ℕ)

@@ -1,10 +1,12 @@
 -- The two forms in which the code holds a block of the division, read as what the division says: a block at its place, and a block's lengths with
 -- one of its squares. They render no sentence of document 01.
-use Rattle.std.specs.Prelude.{Bool, true, false, not, cond, ℕ, ◌+◌, ◌-◌, ◌/◌, ◌≤◌}
+use Rattle.std.specs.Prelude.{Bool, true, false, not, cond, ◌≡◌, ℕ, ◌+◌, ◌-◌, ◌/◌, ◌≤◌}
 use Rattle.terms.specs.Terms.{longest_side}
+use Rattle.division.specs.declared.Choice.{Choice}
 use Rattle.division.specs.declared.Placed.{Placed}
 use Rattle.division.specs.declared.Spot.{Spot}
-use Rattle.division.specs.Division.{square, Direction, +x, +y, -x, -y, Block, even_half, Part, First, Second, A, B, C}
+use Rattle.division.specs.Division.{square, Direction, +x, +y, -x, -y, Block, choice, even_half, Part, First, Second, A, B, C}
+use Rattle.division.specs.Division.Inside.{Inside}
 
 -- A direction by two bits: along y or along x, and backwards or not.
 abbrev pub direction : (turned back : Bool) → Direction
@@ -27,6 +29,10 @@ block k =
 -- The block of a placed one's fields: a walk that calls itself passes them one by one.
 abbrev pub block_at : (along across : ℕ) (turned back : Bool) (a b : ℕ) → Block
 block_at along across turned back a b = block (record { along = along; across = across; turned = turned; back = back; a = a; b = b })
+
+-- A placed block within the longest sides that the choice rule cuts so.
+abbrev pub CutBy : Choice → Placed → Type 0
+CutBy case k = Inside longest_side longest_side (block k) × (choice k.a k.b ≡ case)
 
 -- A coordinate n squares on, or back, and what has to hold for that to be one.
 abbrev pub stepped_to : ℕ → ℕ → Bool → ℕ
