@@ -1,26 +1,16 @@
 -- What a search asks and returns, and each step of it: of a square, document 01's "A lookup goes down into the one part that holds it and skips
--- the others by their areas." It returns one number, into which are packed a number and a count of blocks.
-use Rattle.std.specs.Prelude.{◌≡◌, ℕ, suc, ◌+◌, ◌*◌, ◌/◌, ◌%◌, ◌≤◌, ◌<◌}
+-- the others by their areas."
+use Rattle.std.specs.Prelude.{◌≡◌, ℕ, suc, ◌+◌, ◌*◌, ◌≤◌, ◌<◌}
 use Rattle.terms.specs.Terms.{longest_side, past_32_bits}
 use Rattle.division.specs.declared.Spot.{Spot}
 use Rattle.searches.specs.declared.Numbered.{Numbered}
 use Rattle.division.specs.Division.{square, whole, number_of, blocks_holding}
 
--- The factor of packing: the least number past every count of blocks.
-abbrev pub past_counts : ℕ
-past_counts = 256
-
-abbrev pub number_packed : ℕ → ℕ → ℕ
-number_packed number blocks = number * past_counts + blocks
-
-abbrev pub number_unpacked : (packed : ℕ) → Numbered
-number_unpacked packed = record { number = packed / past_counts % past_32_bits; blocks = packed % past_counts }
-
--- A number with a count of blocks, as the code has them when they are taken out.
+-- A number with a count of blocks, as the code has them.
 abbrev pub numbered : (number blocks : ℕ) → Numbered
 numbered number blocks = record { number = number; blocks = blocks }
 
--- The spot of a search's parameters.
+-- A spot by its fields.
 abbrev pub spot_at : (a b u v : ℕ) → Spot
 spot_at a b u v = record { a = a; b = b; u = u; v = v }
 
@@ -46,10 +36,7 @@ pub record Leads (s : Spot) (before : ℕ) (t : Spot) (on : ℕ) : Type 0 where
   pub number : on + spot_number t ≡ before + spot_number s
   pub holding : spot_blocks s ≡ suc (spot_blocks t)
 
--- A search for a spot in a block that `above` blocks hold.
+-- A search for a spot in a block that `above` blocks hold: the count of those that hold its square has 32 bits.
 pub record Searches (s : Spot) (before above : ℕ) : Type 0 where
   pub lying : Lying s before
-  pub count : above + spot_blocks s < past_counts
-
-abbrev pub search_packed : Spot → (before above : ℕ) → ℕ
-search_packed s before above = number_packed (before + spot_number s) (above + spot_blocks s)
+  pub count : above + spot_blocks s < past_32_bits

@@ -1,10 +1,10 @@
-// From a square of a block to its number.
+// From a square of an area down to its number.
 #![tactic(auto)]
 
-ghost use Rattle.std.specs.Prelude.{◌≡◌};
+ghost use Rattle.std.specs.Prelude.{◌≡◌, ◌+◌};
 ghost use Rattle.division.specs.declared.Choice.TheVariants.{LongCut, UCut};
 ghost use Rattle.division.specs.Division.{square, whole, choice, number_of, blocks_holding};
-ghost use Rattle.searches.specs.Searches.{number_packed, numbered, number_unpacked, spot_at, Lying, Leads, Searches, search_packed};
+ghost use Rattle.searches.specs.Searches.{numbered, spot_at, spot_number, spot_blocks, Lying, Leads, Searches};
 
 use division::{Choice, Spot};
 
@@ -15,101 +15,99 @@ pub struct Numbered {
     pub blocks: u32,
 }
 
-// The factor of packing: the least number past every count of blocks.
-const PAST_COUNTS: u64 = 256;
-
-// Both packed into one number, as in a descent, and taken out again.
-fn pack_number(number: u32, blocks: u32) -> u64
-    ensures { result ≡ number_packed number blocks }
-{
-    number as u64 * PAST_COUNTS + blocks as u64
-}
-
-fn unpack_number(packed: u64) -> Numbered
-    ensures { result ≡ number_unpacked packed }
-{
-    Numbered {
-        number: (packed / PAST_COUNTS % terms::PAST_32_BITS) as u32,
-        blocks: (packed % PAST_COUNTS) as u32,
-    }
-}
-
-// A square as a part has it, and how many numbers come before that part.
+// A square of a block, and how many numbers of the area come before that block.
 #[derive(Clone, Copy)]
-struct Below {
+struct Sought {
     spot: Spot,
     before: u32,
 }
 
-// The square as the part of a long cut that holds it has it.
-fn long_at(s: Spot, before: u32) -> Below
-    requires { Lying s before × (choice s.a s.b ≡ LongCut) }
-    ensures { Leads s before result.spot result.before }
-{
-    let spot = division::in_long(s);
-    Below {
-        spot: spot,
-        before: before + (s.u - spot.u) * s.b,
-    }
-}
-
-// The square as the part of a U cut that holds it has it.
-fn u_at(s: Spot, before: u32) -> Below
-    requires { Lying s before × (choice s.a s.b ≡ UCut) }
-    ensures { Leads s before result.spot result.before }
-{
-    let e = division::even_half(s.b);
-    let to_b = e * (s.a / 2);
-    if e <= s.v {
-        let spot = division::in_b(s);
-        return Below {
-            spot: spot,
-            before: before + to_b,
-        };
-    }
-    if s.u < s.a / 2 {
-        let spot = division::in_a(s);
-        return Below {
-            spot: spot,
-            before: before,
-        };
-    }
-    let spot = division::in_c(s);
-    Below {
-        spot: spot,
-        before: before + to_b + s.a * (s.b - e),
-    }
-}
-
-// The number of the square at (u, v) of an a by b block, `before` numbers on, and how many blocks hold it when `above` hold the block. The call on
-// the part is the last act, so that it compiles to a loop.
-fn search(a: u32, b: u32, u: u32, v: u32, before: u32, above: u32) -> u64
-    requires { Searches (spot_at a b u v) before above }
-    ensures { result ≡ search_packed (spot_at a b u v) before above }
-{
-    let s = Spot { a, b, u, v };
-    let case = division::choose(a, b);
-    match case {
-        Choice::StraightRun => pack_number(before + u, above + 1),
-        Choice::StraightSide => pack_number(before + v, above + 1),
-        Choice::LongCut => {
-            let t = long_at(s, before);
-            let q = t.spot;
-            search(q.a, q.b, q.u, q.v, t.before, above + 1)
+impl Sought {
+    // The square as the part of a long cut that holds it has it.
+    fn in_long(self) -> Sought
+        requires { Lying self.spot self.before × (choice self.spot.a self.spot.b ≡ LongCut) }
+        ensures { Leads self.spot self.before result.spot result.before }
+    {
+        let Sought { spot, before } = self;
+        let part = spot.in_long();
+        Sought {
+            spot: part,
+            before: before + (spot.u - part.u) * spot.b,
         }
-        Choice::UCut => {
-            let t = u_at(s, before);
-            let q = t.spot;
-            search(q.a, q.b, q.u, q.v, t.before, above + 1)
+    }
+
+    // The square as the part of a U cut that holds it has it.
+    fn in_u(self) -> Sought
+        requires { Lying self.spot self.before × (choice self.spot.a self.spot.b ≡ UCut) }
+        ensures { Leads self.spot self.before result.spot result.before }
+    {
+        let Sought { spot, before } = self;
+        let Spot { a, b, u, v } = spot;
+        let e = division::even_half(b);
+        let to_b = e * (a / 2);
+        if e <= v {
+            Sought {
+                spot: spot.in_b(),
+                before: before + to_b,
+            }
+        } else if u < a / 2 {
+            Sought {
+                spot: spot.in_a(),
+                before,
+            }
+        } else {
+            Sought {
+                spot: spot.in_c(),
+                before: before + to_b + a * (b - e),
+            }
+        }
+    }
+}
+
+impl Sought {
+    // The number, and how many blocks hold the square where `above` hold this block. It calls itself on the part that holds the square; the block's area falls.
+    // What is sought is one place in memory, as in a descent.
+    #[tactic(auto, using(crate::proofs::PartWithSquare::part_answered))]
+    fn search(&mut self, above: u32) -> Numbered
+        requires { Searches self.old.spot self.old.before above }
+        ensures { result ≡ numbered (self.old.before + spot_number self.old.spot) (above + spot_blocks self.old.spot) }
+    {
+        let Sought { spot, before } = *self;
+        let blocks = above + 1;
+        match division::choose(spot.a, spot.b) {
+            Choice::StraightRun => Numbered {
+                number: before + spot.u,
+                blocks,
+            },
+            Choice::StraightSide => Numbered {
+                number: before + spot.v,
+                blocks,
+            },
+            Choice::LongCut => {
+                *self = self.in_long();
+                self.search(blocks)
+            }
+            Choice::UCut => {
+                *self = self.in_u();
+                self.search(blocks)
+            }
         }
     }
 }
 
 // The number of an area's square, and how many blocks hold the square.
 pub fn number_at(w: u32, h: u32, x: u32, y: u32) -> Numbered
-    requires { Searches (spot_at w h x y) 0 0 }
+    requires { Lying (spot_at w h x y) 0 }
     ensures { result ≡ numbered (number_of (whole w h) (square x y)) (blocks_holding (whole w h) (square x y)) }
 {
-    let packed = search(w, h, x, y, 0, 0);
-    unpack_number(packed)
+    let mut whole = Sought {
+        spot: Spot {
+            a: w,
+            b: h,
+            u: x,
+            v: y,
+        },
+        before: 0,
+    };
+    whole.search(0)
 }

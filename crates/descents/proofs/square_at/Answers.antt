@@ -1,12 +1,19 @@
--- `descents::square_at` meets its contract: the whole area is the block that the descent starts from.
-use mathlib.Core.Path.{◌∙◌}
-use Rattle.descents.proofs.PartWithNumber.{from_whole, unpacked_is}
+-- `descents::square_at` meets its contract: an area is a block to descend from, above which there is none.
+use Prim.Native.Nat.{◌+◌}
+use native.Mathlib.Omega.{arith}
+use mathlib.Core.Path.{◌≡◌, ap, ◌∙◌}
+use Rattle.division.specs.Division.{whole, square_of, blocks_holding}
+use Rattle.descents.specs.Descents.{held}
+use Rattle.descents.proofs.PartWithNumber.{descends_whole}
 use Rattle.descents.proofs.square_at.Goals as goal
 
-pub descend-packed-requires : goal.descend-packed-requires
-descend-packed-requires c = from_whole c.args.w c.args.h c.args.number c.requires
+pub descend-requires : goal.descend-requires
+descend-requires c = descends_whole c.args.w c.args.h c.args.number c.requires
 
 pub returns : goal.returns
+unfolding whole
 returns c =
-    c.unpack_square.ensures
-    ∙ unpacked_is c.args.w c.args.h c.args.number c.requires c.descend-packed.result c.descend-packed.ensures
+    let all = whole c.args.w c.args.h in
+    let s = square_of all c.args.number in
+    let none : 0 + blocks_holding all s ≡ blocks_holding all s = omega arith in
+    c.descend.ensures ∙ ap (held s) none
