@@ -12,63 +12,75 @@ use Rattle.terms.proofs.Limits.{all_accepted}
 use Rattle.terms.proofs.Meanings.{lengths_exactly, squares_exactly, origin_exactly}
 use Rattle.terms.proofs.OneAnswer.{by_figures}
 use Rattle.division.specs.Division.{square_of}
-use Rattle.curve.specs.declared.SquareAnswer as SquareAnswers
-use Rattle.curve.specs.declared.NumberAnswer as NumberAnswers
-use Rattle.curve.specs.declared.FinishAnswer as FinishAnswers
+use Rattle.std.specs.Prelude.{Result, Ok, Err}
+use Rattle.terms.specs.declared.Refusal.{Refusal}
+use Rattle.curve.specs.declared.FoundSquare.{FoundSquare}
+use Rattle.searches.specs.declared.Numbered.{Numbered}
+use Rattle.curve.specs.declared.Square as OnGrid
 use Rattle.curve.specs.Lookups.{all, number_to_square_at, square_to_number_at, finish_square_at, square_figures, number_figures, finish_figures}
 use Rattle.curve.proofs.Finish.{finish_answered_at}
 use Rattle.curve.proofs.Demands.{NumberAnswered, number_asked, SquareAnswered, square_asked}
 use Rattle.curve.proofs.Refused.{finish_answered}
 
-square_from : SignedFigures → SquareAnswers.SquareAnswer
+-- the answers that are no refusal, by their fields
+abbrev pub square_answer : (x y : ℤ) (blocks : ℕ) → Result FoundSquare Refusal
+square_answer x y k = Ok (record { x = x; y = y; blocks = k })
+
+abbrev pub number_answer : (number blocks : ℕ) → Result Numbered Refusal
+number_answer n k = Ok (record { number = n; blocks = k })
+
+abbrev pub finish_answer : (x y : ℤ) → Result OnGrid.Square Refusal
+finish_answer x y = Ok (record { x = x; y = y })
+
+square_from : SignedFigures → Result FoundSquare Refusal
 square_from f =
-    cond (eqb f.refusal 0) (SquareAnswers.TheVariants.Found (signed_figure 0 f) (signed_figure 1 f) (mag (signed_figure 2 f)))
-    (SquareAnswers.TheVariants.Refused (named f.refusal))
+    cond (eqb f.refusal 0) (square_answer (signed_figure 0 f) (signed_figure 1 f) (mag (signed_figure 2 f)))
+    (Err (named f.refusal))
 
-square_told : (r : SquareAnswers.SquareAnswer) → square_from (square_figures r) ≡ r
+square_told : (r : Result FoundSquare Refusal) → square_from (square_figures r) ≡ r
 unfolding square_from
-square_told (SquareAnswers.TheVariants.Found x y k) = refl
-square_told (SquareAnswers.TheVariants.Refused r) = rw (refusal_not_0 r) (ap SquareAnswers.TheVariants.Refused (named_back r))
+square_told (Ok s) = refl
+square_told (Err r) = rw (refusal_not_0 r) (ap Err (named_back r))
 
-pub square_one : (r s : SquareAnswers.SquareAnswer) {f : SignedFigures} → square_figures r ≡ f → square_figures s ≡ f → r ≡ s
+pub square_one : (r s : Result FoundSquare Refusal) {f : SignedFigures} → square_figures r ≡ f → square_figures s ≡ f → r ≡ s
 square_one = by_figures square_figures square_from square_told
 
-number_from : Figures → NumberAnswers.NumberAnswer
+number_from : Figures → Result Numbered Refusal
 number_from f =
-    cond (eqb f.refusal 0) (NumberAnswers.TheVariants.Found (figure 0 f) (figure 1 f)) (NumberAnswers.TheVariants.Refused (named f.refusal))
+    cond (eqb f.refusal 0) (number_answer (figure 0 f) (figure 1 f)) (Err (named f.refusal))
 
-number_told : (r : NumberAnswers.NumberAnswer) → number_from (number_figures r) ≡ r
+number_told : (r : Result Numbered Refusal) → number_from (number_figures r) ≡ r
 unfolding number_from
-number_told (NumberAnswers.TheVariants.Found n k) = refl
-number_told (NumberAnswers.TheVariants.Refused r) = rw (refusal_not_0 r) (ap NumberAnswers.TheVariants.Refused (named_back r))
+number_told (Ok n) = refl
+number_told (Err r) = rw (refusal_not_0 r) (ap Err (named_back r))
 
-pub number_one : (r s : NumberAnswers.NumberAnswer) {f : Figures} → number_figures r ≡ f → number_figures s ≡ f → r ≡ s
+pub number_one : (r s : Result Numbered Refusal) {f : Figures} → number_figures r ≡ f → number_figures s ≡ f → r ≡ s
 number_one = by_figures number_figures number_from number_told
 
-finish_from : SignedFigures → FinishAnswers.FinishAnswer
+finish_from : SignedFigures → Result OnGrid.Square Refusal
 finish_from f =
-    cond (eqb f.refusal 0) (FinishAnswers.TheVariants.Found (signed_figure 0 f) (signed_figure 1 f))
-    (FinishAnswers.TheVariants.Refused (named f.refusal))
+    cond (eqb f.refusal 0) (finish_answer (signed_figure 0 f) (signed_figure 1 f))
+    (Err (named f.refusal))
 
-finish_told : (r : FinishAnswers.FinishAnswer) → finish_from (finish_figures r) ≡ r
+finish_told : (r : Result OnGrid.Square Refusal) → finish_from (finish_figures r) ≡ r
 unfolding finish_from
-finish_told (FinishAnswers.TheVariants.Found x y) = refl
-finish_told (FinishAnswers.TheVariants.Refused r) = rw (refusal_not_0 r) (ap FinishAnswers.TheVariants.Refused (named_back r))
+finish_told (Ok s) = refl
+finish_told (Err r) = rw (refusal_not_0 r) (ap Err (named_back r))
 
-pub finish_one : (r s : FinishAnswers.FinishAnswer) {f : SignedFigures} → finish_figures r ≡ f → finish_figures s ≡ f → r ≡ s
+pub finish_one : (r s : Result OnGrid.Square Refusal) {f : SignedFigures} → finish_figures r ≡ f → finish_figures s ≡ f → r ≡ s
 finish_one = by_figures finish_figures finish_from finish_told
 
 -- x and y are those of the number's square, moved by the origin, and blocks counts the blocks that hold it; the number is the square's, and so on.
 module _ (area : Area) where
-  pub square_fields : (n : ℕ) (x y : ℤ) (k : ℕ) → square_figures (SquareAnswers.TheVariants.Found x y k) ≡ number_to_square_at area n
+  pub square_fields : (n : ℕ) (x y : ℤ) (k : ℕ) → square_figures (square_answer x y k) ≡ number_to_square_at area n
       → NumberAnswered area n x y k
   square_fields n x y k e = number_asked area n x y k (sym e)
 
-  pub number_fields : (x y : ℤ) (n k : ℕ) → number_figures (NumberAnswers.TheVariants.Found n k) ≡ square_to_number_at area x y
+  pub number_fields : (x y : ℤ) (n k : ℕ) → number_figures (number_answer n k) ≡ square_to_number_at area x y
       → SquareAnswered area x y n k
   number_fields x y n k e = square_asked area x y n k (sym e)
 
-  pub finish_fields : (x y : ℤ) → finish_figures (FinishAnswers.TheVariants.Found x y) ≡ finish_square_at area →
+  pub finish_fields : (x y : ℤ) → finish_figures (finish_answer x y) ≡ finish_square_at area →
       let s = square_of (all area) (area.w * area.h - 1) in
       (x ≡ area.ox +ℤ pos s.x) × (y ≡ area.oy +ℤ pos s.y)
   finish_fields x y e =

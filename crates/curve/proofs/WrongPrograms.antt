@@ -18,10 +18,12 @@ use Rattle.division.proofs.Rules.{parts_are}
 use Rattle.division.proofs.Cases.{in_three}
 use Rattle.division.proofs.Blocks.{whole_inside, cut_holding}
 use Rattle.division.proofs.Coordinates.{whole_holds}
-use Rattle.curve.specs.declared.SquareAnswer as SquareAnswers
-use Rattle.curve.specs.declared.NumberAnswer as NumberAnswers
+use Rattle.std.specs.Prelude.{Result, Err}
+use Rattle.curve.specs.declared.FoundSquare.{FoundSquare}
+use Rattle.searches.specs.declared.Numbered.{Numbered}
 use Rattle.curve.specs.Lookups.{number_to_square_at, square_to_number_at, square_figures, number_figures}
 use Rattle.curve.proofs.Answers.{within}
+use Rattle.curve.proofs.OneAnswer.{square_answer, number_answer}
 use Rattle.curve.proofs.Demands.{number_asked, number_answered_at, number_back_at, square_asked, square_answered_at, square_back_at}
 
 abbrev two_squares : (ox : ℤ) → Area
@@ -49,9 +51,9 @@ not_alone s l m is =
     let more = cut_holding 2 2 (whole 2 2) lies (in_three (lit≤ tt) (lit≤ tt) (parts_are (whole 2 2) UCut refl)) s held in
     omega arith
 
-module _ (f : Area → ℕ → SquareAnswers.SquareAnswer) (promise : (area : Area) (n : ℕ) → square_figures (f area n) ≡ number_to_square_at area n) where
+module _ (f : Area → ℕ → Result FoundSquare Refusal) (promise : (area : Area) (n : ℕ) → square_figures (f area n) ≡ number_to_square_at area n) where
   -- one that refuses everything
-  pub refuses_everything : ((area : Area) (n : ℕ) → (r : Refusal) × (f area n ≡ SquareAnswers.TheVariants.Refused r)) → ⊥
+  pub refuses_everything : ((area : Area) (n : ℕ) → (r : Refusal) × (f area n ≡ Err r)) → ⊥
   refuses_everything all =
       let area = two_squares (pos 0) in
       let given = all area 0 in
@@ -60,7 +62,7 @@ module _ (f : Area → ℕ → SquareAnswers.SquareAnswer) (promise : (area : Ar
 
   -- one that gives a constant square, whatever the count
   pub constant_square : (x y : ℤ)
-      → ((area : Area) (n : ℕ) → grid_accepted area ≡ true → n < area.w * area.h → (k : ℕ) × (f area n ≡ SquareAnswers.TheVariants.Found x y k)) → ⊥
+      → ((area : Area) (n : ℕ) → grid_accepted area ≡ true → n < area.w * area.h → (k : ℕ) × (f area n ≡ square_answer x y k)) → ⊥
   constant_square x y all =
       let area = two_squares (pos 0) in
       let ok = two_on 0 (lit≤ tt) in
@@ -81,7 +83,7 @@ module _ (f : Area → ℕ → SquareAnswers.SquareAnswer) (promise : (area : Ar
 
   -- one whose count is made up: 1 for every square is within demand 3's bound, and is not the division's own count
   pub made_up_count : ((area : Area) (n : ℕ) → grid_accepted area ≡ true → n < area.w * area.h
-      → (x : ℤ) × (y : ℤ) × (f area n ≡ SquareAnswers.TheVariants.Found x y 1)) → ⊥
+      → (x : ℤ) × (y : ℤ) × (f area n ≡ square_answer x y 1)) → ⊥
   made_up_count all =
       let a = all four_squares 0 four_on (lit< tt) in
       let was = number_asked four_squares 0 a.0 a.1 1 (sym (promise four_squares 0) ∙ ap square_figures a.2) in
@@ -93,9 +95,9 @@ west_of_two : square_to_number_at (two_squares (pos 1)) (pos 0) (pos 0) ≡ refu
 unfolding square_to_number_at origin_accepted
 west_of_two = refl
 
-module _ (g : Area → ℤ → ℤ → NumberAnswers.NumberAnswer) (promise : (area : Area) (x y : ℤ) → number_figures (g area x y) ≡ square_to_number_at area x y) where
+module _ (g : Area → ℤ → ℤ → Result Numbered Refusal) (promise : (area : Area) (x y : ℤ) → number_figures (g area x y) ≡ square_to_number_at area x y) where
   -- one that refuses every square, one that gives a constant number, one that forgets the origin, and one whose count is made up
-  pub refuses_every_square : ((area : Area) (x y : ℤ) → (r : Refusal) × (g area x y ≡ NumberAnswers.TheVariants.Refused r)) → ⊥
+  pub refuses_every_square : ((area : Area) (x y : ℤ) → (r : Refusal) × (g area x y ≡ Err r)) → ⊥
   refuses_every_square all =
       let area = two_squares (pos 0) in
       let given = all area (pos 0) (pos 0) in
@@ -106,7 +108,7 @@ module _ (g : Area → ℤ → ℤ → NumberAnswers.NumberAnswer) (promise : (a
 
   pub constant_number : (n : ℕ)
       → ((area : Area) (x y : ℕ) → grid_accepted area ≡ true → x < area.w → y < area.h
-      → (k : ℕ) × (g area (area.ox +ℤ pos x) (area.oy +ℤ pos y) ≡ NumberAnswers.TheVariants.Found n k)) → ⊥
+      → (k : ℕ) × (g area (area.ox +ℤ pos x) (area.oy +ℤ pos y) ≡ number_answer n k)) → ⊥
   constant_number n all =
       let area = two_squares (pos 0) in
       let ok = two_on 0 (lit≤ tt) in
@@ -125,7 +127,7 @@ module _ (g : Area → ℤ → ℤ → NumberAnswers.NumberAnswer) (promise : (a
       omega (arith, ap (λ f. f.refusal) same)
 
   pub made_up_square_count : ((area : Area) (x y : ℕ) → grid_accepted area ≡ true → x < area.w → y < area.h
-      → (n : ℕ) × (g area (area.ox +ℤ pos x) (area.oy +ℤ pos y) ≡ NumberAnswers.TheVariants.Found n 1)) → ⊥
+      → (n : ℕ) × (g area (area.ox +ℤ pos x) (area.oy +ℤ pos y) ≡ number_answer n 1)) → ⊥
   made_up_square_count all =
       let a = all four_squares 0 0 four_on (lit< tt) (lit< tt) in
       let was = square_asked four_squares (pos 0) (pos 0) a.0 1 (sym (promise four_squares (pos 0) (pos 0)) ∙ ap number_figures a.1) in

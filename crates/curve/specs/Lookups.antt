@@ -1,15 +1,16 @@
 -- What both lookups and the finish square's call say, for every area, number and square, as figures on paper: document 01, "What a lookup and a table say" and
 -- "Refusal numbers", with the finish square of document 02, order 1, and the site grid of its order 6. Each call's refusals stand as one list, in their order.
-use Rattle.std.specs.Prelude.{Bool, ◌&&◌, cond, List, [], ◌∷◌, ℕ, ◌-◌, ◌*◌, leb, ltb, eqb, ℤ, pos, ◌+ℤ◌, ◌-ℤ◌}
+use Rattle.std.specs.Prelude.{Bool, ◌&&◌, cond, List, [], ◌∷◌, ℕ, ◌-◌, ◌*◌, leb, ltb, eqb, ℤ, pos, ◌+ℤ◌, ◌-ℤ◌, Result, Ok, Err}
 use Rattle.terms.specs.declared.Area.{Area}
+use Rattle.terms.specs.declared.Refusal.{Refusal}
 use Rattle.terms.specs.declared.Refusal.TheVariants.{AreaLimit, SquareOutside, NumberOutside, TooDeep, OriginLimit, TooManySquares}
 use Rattle.terms.specs.Terms.{lengths_accepted, squares_accepted, origin_accepted, distance_of, below, most_blocks}
 use Rattle.terms.specs.Terms.{Figures, SignedFigures, in_signs, signed, answered, refused}
 use Rattle.terms.specs.Guards.{Guard, ◌else◌, guarded}
 use Rattle.division.specs.Division.{Block, Square, square, whole, square_of, number_of, blocks_holding}
-use Rattle.curve.specs.declared.SquareAnswer as SquareAnswers
-use Rattle.curve.specs.declared.NumberAnswer as NumberAnswers
-use Rattle.curve.specs.declared.FinishAnswer as FinishAnswers
+use Rattle.curve.specs.declared.FoundSquare.{FoundSquare}
+use Rattle.searches.specs.declared.Numbered.{Numbered}
+use Rattle.curve.specs.declared.Square as OnGrid
 
 -- The area as a block: squares are counted from its own corner there. "Squares asked and answered, finish and windows included, are then signed and origin plus
 -- the old square": values that begin with an old square's x and y.
@@ -83,14 +84,14 @@ finish_square_at area =
     from_origin area.ox area.oy (guarded (finish_guards area) 2 (s.x ∷ s.y ∷ []))
 
 -- The figures of each answer: "the number, all else 0" where it is refused.
-abbrev pub square_figures : SquareAnswers.SquareAnswer → SignedFigures
-square_figures (SquareAnswers.TheVariants.Found x y blocks) = record { refusal = 0; values = x ∷ y ∷ pos blocks ∷ [] }
-square_figures (SquareAnswers.TheVariants.Refused r) = signed (refused r 3)
+abbrev pub square_figures : Result FoundSquare Refusal → SignedFigures
+square_figures (Ok s) = record { refusal = 0; values = s.x ∷ s.y ∷ pos s.blocks ∷ [] }
+square_figures (Err r) = signed (refused r 3)
 
-abbrev pub number_figures : NumberAnswers.NumberAnswer → Figures
-number_figures (NumberAnswers.TheVariants.Found number blocks) = answered (number ∷ blocks ∷ [])
-number_figures (NumberAnswers.TheVariants.Refused r) = refused r 2
+abbrev pub number_figures : Result Numbered Refusal → Figures
+number_figures (Ok n) = answered (n.number ∷ n.blocks ∷ [])
+number_figures (Err r) = refused r 2
 
-abbrev pub finish_figures : FinishAnswers.FinishAnswer → SignedFigures
-finish_figures (FinishAnswers.TheVariants.Found x y) = record { refusal = 0; values = x ∷ y ∷ [] }
-finish_figures (FinishAnswers.TheVariants.Refused r) = signed (refused r 2)
+abbrev pub finish_figures : Result OnGrid.Square Refusal → SignedFigures
+finish_figures (Ok s) = record { refusal = 0; values = s.x ∷ s.y ∷ [] }
+finish_figures (Err r) = signed (refused r 2)

@@ -2,41 +2,42 @@
 // the datum post.
 #![tactic(auto)]
 
-ghost use Rattle.std.specs.Prelude.{true, ◌&&◌, [], ◌∷◌, ◌≡◌, ◌-◌, ◌*◌, ◌≤◌, leb, ltb, pos, ◌+ℤ◌};
-ghost use Rattle.terms.specs.declared.Refusal.TheVariants.{TooDeep};
-ghost use Rattle.terms.specs.Terms.{longest_side, most_blocks, offset_accepted, accepted, grid_accepted};
-ghost use Rattle.terms.specs.Guards.{◌else◌, guarded};
+ghost use Rattle.std.specs.Prelude.{true, false, [], ◌∷◌, ◌≡◌, ◌-◌, ◌*◌, ◌≤◌, leb, pos, ◌+ℤ◌, IfOk, IfErr};
+ghost use Rattle.terms.specs.declared.Refusal.TheVariants.{SquareOutside, TooDeep};
+ghost use Rattle.terms.specs.Terms.{longest_side, most_blocks, offset_accepted, accepted};
+ghost use Rattle.terms.specs.Guards.{◌else◌, admitted};
 ghost use Rattle.division.specs.Division.{square, whole, square_of};
-ghost use Rattle.curve.specs.Lookups.{from_origin, number_to_square_at, square_to_number_at, finish_square_at};
+ghost use Rattle.curve.specs.Lookups.{inside, old_square, number_to_square_at, square_to_number_at, finish_square_at};
 ghost use Rattle.curve.specs.Lookups.{square_figures, number_figures, finish_figures};
 ghost use Rattle.curve.specs.Placing.{Places};
 
 use descents::Held;
 use searches::Numbered;
-use terms::{Admission, Area, Refusal};
+use terms::{Area, Refusal};
 
 // The most blocks of the division that a lookup opens.
 const MOST_BLOCKS: u32 = 64;
 
-// What a lookup of a number answers.
-#[derive(Clone, Copy)]
-pub enum SquareAnswer {
-    Found { x: i32, y: i32, blocks: u32 },
-    Refused(Refusal),
+// A square of the site grid.
+#[derive(Clone, Copy, Debug, PartialEq, Eq)]
+pub struct Square {
+    pub x: i32,
+    pub y: i32,
 }
 
-// What a lookup of a square answers.
-#[derive(Clone, Copy)]
-pub enum NumberAnswer {
-    Found { number: u32, blocks: u32 },
-    Refused(Refusal),
+// A number's square on the site grid, and how many blocks of the division hold it.
+#[derive(Clone, Copy, Debug, PartialEq, Eq)]
+pub struct FoundSquare {
+    pub x: i32,
+    pub y: i32,
+    pub blocks: u32,
 }
 
-// What the finish square's call answers.
+// A square counted from the area's own corner. Two types keep the two ways of counting apart, which a type parameter would tell by the sign alone.
 #[derive(Clone, Copy)]
-pub enum FinishAnswer {
-    Found { x: i32, y: i32 },
-    Refused(Refusal),
+struct OldSquare {
+    x: u32,
+    y: u32,
 }
 
 // A place on the site grid, so far east or north of the origin.
@@ -47,80 +48,60 @@ fn shifted(o: i32, d: u32) -> i32
     o + d as i32
 }
 
-// What was found, moved by the origin, unless too many blocks hold the square.
-fn square_unless_deep(area: Area, held: Held) -> SquareAnswer
+// What was found in an area, moved by its origin.
+fn on_grid(area: Area, held: Held) -> FoundSquare
     requires { Places area held.x held.y }
-    ensures { square_figures result
-        ≡ from_origin area.ox area.oy
-        (guarded (leb held.blocks most_blocks else TooDeep ∷ []) 3 (held.x ∷ held.y ∷ held.blocks ∷ [])) }
+    ensures { result
+        ≡ record { x = area.ox +ℤ pos held.x; y = area.oy +ℤ pos held.y; blocks = held.blocks } }
 {
-    if MOST_BLOCKS < held.blocks {
-        return SquareAnswer::Refused(Refusal::TooDeep);
-    }
-    SquareAnswer::Found {
+    FoundSquare {
         x: shifted(area.ox, held.x),
         y: shifted(area.oy, held.y),
         blocks: held.blocks,
     }
 }
 
-fn number_unless_deep(found: Numbered) -> NumberAnswer
-    ensures { number_figures result ≡ guarded (leb found.blocks most_blocks else TooDeep ∷ []) 2 (found.number ∷ found.blocks ∷ []) }
+// Whether so few blocks hold a square that a lookup may answer.
+fn admit_blocks(blocks: u32) -> Result<(), Refusal>
+    ensures { result ≡ admitted (leb blocks most_blocks else TooDeep ∷ []) }
 {
-    if MOST_BLOCKS < found.blocks {
-        return NumberAnswer::Refused(Refusal::TooDeep);
-    }
-    NumberAnswer::Found {
-        number: found.number,
-        blocks: found.blocks,
-    }
+    terms::guard(blocks <= MOST_BLOCKS, Refusal::TooDeep)
 }
 
-// Whether a square, by its distances from the origin, lies in the area.
-fn is_inside(area: Area, u: u32, v: u32) -> bool
-    ensures { result ≡ ltb u area.w && ltb v area.h }
+// A square of the site grid counted from the area's own corner, if it lies in the area.
+fn in_area(area: Area, x: i32, y: i32) -> Result<OldSquare, Refusal>
+    ensures inside { IfOk result (λ s. (inside area x y ≡ true) × (square s.x s.y ≡ old_square area x y)) }
+    ensures outside { IfErr result (λ r. (inside area x y ≡ false) × (r ≡ SquareOutside)) }
 {
-    if area.w <= u {
-        return false;
+    match (terms::distance(x, area.ox), terms::distance(y, area.oy)) {
+        (Some(u), Some(v)) if u < area.w && v < area.h => Ok(OldSquare { x: u, y: v }),
+        _ => Err(Refusal::SquareOutside),
     }
-    v < area.h
 }
 
 // The square of a number of an area, and how many blocks of the division hold it.
-pub fn number_to_square(area: Area, number: u32) -> SquareAnswer
+#[tactic(auto, using(crate::proofs::Answers::number_told))]
+pub fn number_to_square(area: Area, number: u32) -> Result<FoundSquare, Refusal>
     ensures { square_figures result ≡ number_to_square_at area number }
 {
-    let w = area.w;
-    let h = area.h;
-    let grid = terms::admit_grid(area);
-    match terms::guard(
-        grid,
-        (number as u64) < w as u64 * h as u64,
-        Refusal::NumberOutside,
-    ) {
-        Admission::Refused(r) => SquareAnswer::Refused(r),
-        Admission::Granted => square_unless_deep(area, descents::square_at(w, h, number)),
-    }
+    terms::admit_grid(area)?;
+    let squares = area.w as u64 * area.h as u64;
+    terms::guard((number as u64) < squares, Refusal::NumberOutside)?;
+    let held = descents::square_at(area.w, area.h, number);
+    admit_blocks(held.blocks)?;
+    Ok(on_grid(area, held))
 }
 
 // The number of a square of an area, and how many blocks of the division hold it.
-pub fn square_to_number(area: Area, x: i32, y: i32) -> NumberAnswer
+#[tactic(auto, using(crate::proofs::Answers::square_told))]
+pub fn square_to_number(area: Area, x: i32, y: i32) -> Result<Numbered, Refusal>
     ensures { number_figures result ≡ square_to_number_at area x y }
 {
-    let u = terms::distance(x, area.ox);
-    let v = terms::distance(y, area.oy);
-    let grid = terms::admit_grid(area);
-    match terms::guard(grid, is_inside(area, u, v), Refusal::SquareOutside) {
-        Admission::Refused(r) => NumberAnswer::Refused(r),
-        Admission::Granted => number_unless_deep(searches::number_at(area.w, area.h, u, v)),
-    }
-}
-
-// A square counted from the area's own corner.
-#[derive(Clone, Copy)]
-struct OldSquare {
-    x: u32,
-    y: u32,
+    terms::admit_grid(area)?;
+    let square = in_area(area, x, y)?;
+    let found = searches::number_at(area.w, area.h, square.x, square.y);
+    admit_blocks(found.blocks)?;
+    Ok(found)
 }
 
 // The square of the last number. The area's lengths tell it, so that no block has to be opened.
@@ -141,24 +122,15 @@ fn last_square(w: u32, h: u32) -> OldSquare
     OldSquare { x: w - 1, y: 0 }
 }
 
-// That square, moved by the origin.
-fn finish_within(area: Area) -> FinishAnswer
-    requires { grid_accepted area ≡ true }
+// The finish square, which is the square of the last number.
+#[tactic(auto, using(crate::proofs::Answers::finish_off_grid))]
+pub fn finish_square(area: Area) -> Result<Square, Refusal>
     ensures { finish_figures result ≡ finish_square_at area }
 {
+    terms::admit_grid(area)?;
     let last = last_square(area.w, area.h);
-    FinishAnswer::Found {
+    Ok(Square {
         x: shifted(area.ox, last.x),
         y: shifted(area.oy, last.y),
-    }
-}
-
-// The finish square, which is the square of the last number.
-pub fn finish_square(area: Area) -> FinishAnswer
-    ensures { finish_figures result ≡ finish_square_at area }
-{
-    match terms::admit_grid(area) {
-        Admission::Refused(r) => FinishAnswer::Refused(r),
-        Admission::Granted => finish_within(area),
-    }
+    })
 }

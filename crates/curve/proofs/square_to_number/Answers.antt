@@ -1,61 +1,45 @@
--- `curve::square_to_number` meets its contract: the guards in turn, then what the search found at the distances from the origin.
-use borrow.Author.Rules.{rules}
-use mathlib.Core.Bool.{Bool, ◌&&◌}
-use mathlib.Core.Path.{◌≡◌, sym, ◌∙◌}
-use Prim.Native.Nat.{ℕ}
-use lib.Dec.{lit<, ltb}
-use lib.IntN.{ℤ, ◌-ℤ◌}
-use Rattle.terms.specs.declared.Area.{Area}
-use Rattle.terms.specs.declared.Admission.{Admission}
+-- `curve::square_to_number` meets its contract: a square that lies in an area on the grid is what a search asks, and what it finds is
+-- answered.
+use mathlib.Core.Bool.{true, false}
+use mathlib.Core.Path.{◌≡◌, sym, ap, ◌∙◌}
 use Rattle.terms.specs.declared.Refusal.TheVariants.{SquareOutside}
-use Rattle.terms.specs.Terms.{distance_of}
-use Rattle.terms.specs.Guards.{◌else◌, admitted, then_guard, first, grid_guards}
-use Rattle.terms.proofs.Limits.{both_accepted, grid_passed}
-use Rattle.terms.proofs.Guards.{next}
-use Rattle.terms.proofs.Signs.{held}
-use Rattle.curve.specs.Lookups.{square_guards}
-use Rattle.curve.proofs.Answers.{searches, inside_told, square_refused_so, square_on, number_found, distance_kept}
+use Rattle.terms.proofs.Guards.{handed_on}
+use Rattle.division.specs.Division.{square}
+use Rattle.curve.specs.Lookups.{inside, old_square, number_figures}
+use Rattle.curve.proofs.Answers.{as_asked, square_out, square_searches, square_deep, square_found}
 use Rattle.curve.proofs.square_to_number.Goals as goal
 
--- the first four guards were tried
-tried : (area : Area) (x y : ℤ) {u v : ℕ} → u ≡ distance_of (x -ℤ area.ox) → v ≡ distance_of (y -ℤ area.oy) → {grid judged : Admission}
-    → grid ≡ admitted (grid_guards area) → {inside : Bool} → inside ≡ ltb u area.w && ltb v area.h → judged ≡ then_guard grid (inside else SquareOutside)
-    → judged ≡ admitted (first 4 (square_guards area x y))
-tried area x y east north p told q =
-    next (square_guards area x y) 3 (lit< tt) p q (λ p. told ∙ inside_told area x y east north (both_accepted area.w area.h p.0 p.1.0))
-
-pub number_at-requires : goal.number_at-requires
-number_at-requires c =
+pub returns-in_err-square : goal.returns-in_err-square
+returns-in_err-square c =
     let asked = c.args in
     let area = asked.area in
-    let x_is : held area.ox ≡ area.ox = search rules in
-    let y_is : held area.oy ≡ area.oy = search rules in
-    let east = distance_kept c.ranges.x x_is c.distance-u.ensures in
-    let north = distance_kept c.ranges.y y_is c.distance-v.ensures in
-    let on = square_on area asked.x asked.y east north
-    (sym (tried area asked.x asked.y east north c.admit_grid-grid.ensures c.is_inside.ensures c.guard.ensures) ∙ c.in-Granted.is) in
-    searches area.w area.h (grid_passed area on.0).0 _ _ on.1 on.2
+    let out = as_asked c.ranges.x c.ranges.y (λ x y. (inside area x y ≡ false) × (c.in_err-square.field-0.0 ≡ SquareOutside)) c.in_err-square.ensures.outside in
+    ap number_figures (handed_on c.from_residual-in_err-square.ensures)
+    ∙ square_out area asked.x asked.y (sym c.admit_grid.ensures ∙ c.in_ok-admit_grid.was) c.in_err-square.field-0.0 out.0 out.1
 
-pub returns-in-Refused : goal.returns-in-Refused
-returns-in-Refused c =
+pub returns-in_err-admit_blocks : goal.returns-in_err-admit_blocks
+returns-in_err-admit_blocks c =
     let asked = c.args in
     let area = asked.area in
-    let x_is : held area.ox ≡ area.ox = search rules in
-    let y_is : held area.oy ≡ area.oy = search rules in
-    let east = distance_kept c.ranges.x x_is c.distance-u.ensures in
-    let north = distance_kept c.ranges.y y_is c.distance-v.ensures in
-    square_refused_so area asked.x asked.y east north c.in-Refused.r
-    (sym (tried area asked.x asked.y east north c.admit_grid-grid.ensures c.is_inside.ensures c.guard.ensures) ∙ c.in-Refused.is)
+    let s = c.in_ok-square.square in
+    let there = as_asked c.ranges.x c.ranges.y (λ x y. (inside area x y ≡ true) × (square s.x s.y ≡ old_square area x y)) c.in_ok-square.ensures.inside in
+    ap number_figures (handed_on c.from_residual-in_err-admit_blocks.ensures)
+    ∙ square_deep area asked.x asked.y (sym c.admit_grid.ensures ∙ c.in_ok-admit_grid.was) s.x s.y there.0 there.1
+    c.number_at-found.result c.number_at-found.ensures c.in_err-admit_blocks.field-0.0 (sym c.admit_blocks.ensures ∙ c.in_err-admit_blocks.was)
 
-pub returns-in-Granted : goal.returns-in-Granted
-returns-in-Granted c =
+pub number_at-found-requires : goal.number_at-found-requires
+number_at-found-requires c =
     let asked = c.args in
     let area = asked.area in
-    let x_is : held area.ox ≡ area.ox = search rules in
-    let y_is : held area.oy ≡ area.oy = search rules in
-    let east = distance_kept c.ranges.x x_is c.distance-u.ensures in
-    let north = distance_kept c.ranges.y y_is c.distance-v.ensures in
-    c.number_unless_deep.ensures
-    ∙ number_found area asked.x asked.y east north
-    (sym (tried area asked.x asked.y east north c.admit_grid-grid.ensures c.is_inside.ensures c.guard.ensures) ∙ c.in-Granted.is)
-    c.number_at.result c.number_at.ensures
+    let s = c.in_ok-square.square in
+    let there = as_asked c.ranges.x c.ranges.y (λ x y. (inside area x y ≡ true) × (square s.x s.y ≡ old_square area x y)) c.in_ok-square.ensures.inside in
+    square_searches area asked.x asked.y (sym c.admit_grid.ensures ∙ c.in_ok-admit_grid.was) s.x s.y there.0 there.1
+
+pub returns : goal.returns
+returns c =
+    let asked = c.args in
+    let area = asked.area in
+    let s = c.in_ok-square.square in
+    let there = as_asked c.ranges.x c.ranges.y (λ x y. (inside area x y ≡ true) × (square s.x s.y ≡ old_square area x y)) c.in_ok-square.ensures.inside in
+    square_found area asked.x asked.y (sym c.admit_grid.ensures ∙ c.in_ok-admit_grid.was) s.x s.y there.0 there.1
+    c.number_at-found.result c.number_at-found.ensures
