@@ -1,144 +1,89 @@
 // Checks a block of the division in a table: the walk is that of a fill, and hands on the least wrong place where a fill enters squares.
 #![tactic(auto)]
 
-ghost use Rattle.std.specs.Prelude.{false, cond, ◌≡◌, leb, length};
+ghost use Rattle.std.specs.Prelude.{false, cond, ◌≡◌, length};
 ghost use Rattle.division.specs.declared.Choice.TheVariants.{LongCut, UCut};
 ghost use Rattle.division.specs.Division.{choice};
-ghost use Rattle.division.specs.Forms.{block, block_at};
-ghost use Rattle.leaves.specs.Walk.{wrong_packed, checked, Fits};
+ghost use Rattle.division.specs.Forms.{block};
+ghost use Rattle.leaves.specs.Walk.{none_before, checked, Fits};
 
 use division::{Choice, Placed};
+use leaves::{Kind, Numbered, Wrong};
 use terms::Area;
 
-// A block, its fields handed on one by one: handed on whole it would be copied at each call, which nearly doubles the time. By number what was found
-// before the block stays the least, and nothing more is looked at.
+// A block by its case. By number what was found before the block stays the least, and nothing more is looked at. It and the two cuts call each other; the
+// block's area falls.
 #[cycle(check)]
-pub fn check_block(
+pub fn check_block<T: Kind>(
     table: &[u32],
-    k: Placed,
+    k: Numbered,
     area: Area,
-    at: u32,
-    by_square: bool,
-    so_far: u64,
-) -> u64
-    requires { Fits by_square area.w area.h (length table.now) (block k) at }
-    ensures { result ≡ checked by_square area.w table.now (block k) at so_far }
+    so_far: Option<Wrong>,
+) -> Option<Wrong>
+    requires { Fits T.BY_SQUARE area.w area.h (length table.now) (block k.placed) k.first }
+    ensures { result ≡ checked T.BY_SQUARE area.w table.now (block k.placed) k.first so_far }
 {
-    if !by_square {
-        if so_far < leaves::pack_wrong(at, 0) {
-            return so_far;
-        }
+    if !T::BY_SQUARE && !leaves::none_before(k.first, so_far) {
+        return so_far;
     }
-    check_choice(
-        table, k.along, k.across, k.turned, k.back, k.a, k.b, area, at, by_square, so_far,
-    )
-}
-
-// A block by its case. It and the two cuts call each other; the block's area falls.
-#[cycle(check)]
-fn check_choice(
-    table: &[u32],
-    along: u32,
-    across: u32,
-    turned: bool,
-    back: bool,
-    a: u32,
-    b: u32,
-    area: Area,
-    at: u32,
-    by_square: bool,
-    so_far: u64,
-) -> u64
-    requires { Fits by_square area.w area.h (length table.now) (block_at along across turned back a b) at }
-    ensures { result ≡ checked by_square area.w table.now (block_at along across turned back a b) at so_far }
-{
-    let k = Placed {
-        along,
-        across,
-        turned,
-        back,
-        a,
-        b,
-    };
-    let case = division::choose(a, b);
-    match case {
-        Choice::StraightRun => leaves::check_straight(table, k, area, at, by_square, so_far),
-        Choice::StraightSide => leaves::check_straight(
-            table,
-            leaves::exchanged_block(k),
-            area,
-            at,
-            by_square,
-            so_far,
-        ),
-        Choice::LongCut => check_long_cut(table, k, area, at, by_square, so_far),
-        Choice::UCut => {
-            if a == 2 {
-                if b <= 3 {
-                    return leaves::check_leaf(table, k, area, at, by_square, so_far);
-                }
-            }
-            check_u_cut(table, k, area, at, by_square, so_far)
-        }
+    let Placed { a, b, .. } = k.placed;
+    match division::choose(a, b) {
+        Choice::StraightRun => leaves::check_straight::<T>(table, k, area, so_far),
+        Choice::StraightSide => leaves::check_straight::<T>(table, k.exchanged(), area, so_far),
+        Choice::LongCut => check_long_cut::<T>(table, k, area, so_far),
+        Choice::UCut if a == 2 && b <= 3 => leaves::check_leaf::<T>(table, k, area, so_far),
+        Choice::UCut => check_u_cut::<T>(table, k, area, so_far),
     }
 }
 
-// Whether a part from `to` on, alike to another before it, may be compared with that: by number, where nothing before it is wrong.
-fn comparable(by_square: bool, alike: bool, to: u32, least: u64) -> bool
-    ensures { result ≡ cond by_square false (cond alike (leb (wrong_packed to 0) least) false) }
+// Whether a part, alike to another before it, may be compared with that: by number, where nothing before it is wrong.
+fn comparable<T: Kind>(alike: bool, part: Numbered, least: Option<Wrong>) -> bool
+    ensures { result ≡ cond T.BY_SQUARE false (cond alike (none_before part.first least) false) }
 {
-    if by_square {
-        return false;
-    }
-    if alike {
-        return leaves::pack_wrong(to, 0) <= least;
-    }
-    false
+    !T::BY_SQUARE && alike && leaves::none_before(part.first, least)
 }
 
 // The two parts of a long cut. By number the second repeats the first where it is as long: if it agrees with it, nothing in it is wrong.
 #[cycle(check)]
-fn check_long_cut(
+fn check_long_cut<T: Kind>(
     table: &[u32],
-    k: Placed,
+    k: Numbered,
     area: Area,
-    at: u32,
-    by_square: bool,
-    so_far: u64,
-) -> u64
-    requires { Fits by_square area.w area.h (length table.now) (block k) at × (choice k.a k.b ≡ LongCut) }
-    ensures { result ≡ checked by_square area.w table.now (block k) at so_far }
+    so_far: Option<Wrong>,
+) -> Option<Wrong>
+    requires { Fits T.BY_SQUARE area.w area.h (length table.now) (block k.placed) k.first × (choice k.placed.a k.placed.b ≡ LongCut) }
+    ensures { result ≡ checked T.BY_SQUARE area.w table.now (block k.placed) k.first so_far }
 {
-    let e = division::even_half(k.a);
-    let to_second = at + e * k.b;
-    let near = division::long_part(k, false);
-    let far = division::long_part(k, true);
-    let first = check_block(table, near, area, at, by_square, so_far);
-    if comparable(by_square, e == k.a - e, to_second, first) {
-        if copies::holds_again(table, near, at, far, to_second, area, false) {
-            return first;
-        }
+    let near = k.long_part(false);
+    let far = k.long_part(true);
+    let first = check_block::<T>(table, near, area, so_far);
+    if comparable::<T>(near.placed.a == far.placed.a, far, first)
+        && copies::holds_again(table, near, far, area, false)
+    {
+        return first;
     }
-    check_block(table, far, area, to_second, by_square, first)
+    check_block::<T>(table, far, area, first)
 }
 
 // The three parts of a U cut. By number C repeats A, turned round, where the run is even.
 #[cycle(check)]
-fn check_u_cut(table: &[u32], k: Placed, area: Area, at: u32, by_square: bool, so_far: u64) -> u64
-    requires { Fits by_square area.w area.h (length table.now) (block k) at × (choice k.a k.b ≡ UCut) }
-    ensures { result ≡ checked by_square area.w table.now (block k) at so_far }
+fn check_u_cut<T: Kind>(
+    table: &[u32],
+    k: Numbered,
+    area: Area,
+    so_far: Option<Wrong>,
+) -> Option<Wrong>
+    requires { Fits T.BY_SQUARE area.w area.h (length table.now) (block k.placed) k.first × (choice k.placed.a k.placed.b ≡ UCut) }
+    ensures { result ≡ checked T.BY_SQUARE area.w table.now (block k.placed) k.first so_far }
 {
-    let e = division::even_half(k.b);
-    let to_b = at + e * (k.a / 2);
-    let to_c = to_b + k.a * (k.b - e);
-    let up = division::part_a(k);
-    let down = division::part_c(k);
-    let a = check_block(table, up, area, at, by_square, so_far);
-    let b = check_block(table, division::part_b(k), area, to_b, by_square, a);
-    if comparable(by_square, k.a % 2 == 0, to_c, b) {
-        if copies::holds_again(table, up, at, down, to_c, area, true) {
-            return b;
-        }
+    let up = k.part_a();
+    let down = k.part_c();
+    let a = check_block::<T>(table, up, area, so_far);
+    let b = check_block::<T>(table, k.part_b(), area, a);
+    if comparable::<T>(k.placed.a % 2 == 0, down, b)
+        && copies::holds_again(table, up, down, area, true)
+    {
+        return b;
     }
-    check_block(table, down, area, to_c, by_square, b)
+    check_block::<T>(table, down, area, b)
 }

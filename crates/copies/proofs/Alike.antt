@@ -1,7 +1,8 @@
 -- The places of a block that repeats another are the images of the other's. Both lie alike around their starts, by their own a by b area: a square lies
 -- as many places on from the one start as from the other, or as many back.
 use Rattle.std.proofs.Common.{◌≡◌, ℕ, ◌+◌, ◌-◌, ◌*◌, ◌<◌, ◌≤◌, Bool, true, false, cond, not, List, map, length, get_or, sym, ap, ◌∙◌, subst, ap₂, add-mul}
-use Rattle.std.proofs.Common.{arith, ext_get_or}
+use Rattle.std.proofs.Common.{◌++◌, take, drop, drop-drop, arith, ext_get_or}
+use Rattle.std.proofs.lemmas.List.{drop-take, take-take}
 use mathlib.Core.List.{map-map}
 use mathlib.Core.Path.{subst⁻¹}
 use lib.ListN.{length-map}
@@ -14,10 +15,10 @@ use Rattle.division.proofs.Blocks.{whole_inside}
 use Rattle.division.proofs.Coordinates.{spot, Within, spot_inside, whole_within}
 use Rattle.division.proofs.SameLengths.{square_alike, count_alike}
 use Rattle.division.proofs.PlaceInList.{getD_map_in}
-use Rattle.leaves.specs.Walk.{place, over, enter_one, filled_with}
+use Rattle.leaves.specs.Walk.{place, filled_with}
 use Rattle.leaves.proofs.Entries.{place_below, squares_fit}
-use Rattle.copies.specs.Copies.{image, facing, copied, Agree, Held, Again}
-use Rattle.copies.proofs.Entered.{held_places, places_held}
+use Rattle.copies.specs.Copies.{image, facing, Agree, Held, Again}
+use Rattle.copies.proofs.Entered.{numbers_entered, held_places, places_held}
 
 -- a block's start has its place in the table
 pub start_below : (w h : ℕ) (k : Block) → Inside w h k → place w k.start < w * h
@@ -95,6 +96,13 @@ entry_below w h k inside i l =
     subst⁻¹ (λ (n : ℕ). n < w * h)
     (getD_map_in (place w) (curve k) i 0 (square 0 0) (omega arith) ∙ ap (place w) (square_alike w h k inside i l))
     (place_below w h (spot k s) (spot_inside w h k inside s (own_within w h k inside i l)))
+
+-- part of what a list begins with
+part_of_front : (t : List ℕ) (from n to : ℕ) → from + n ≤ to → take n (drop from (take to t)) ≡ take n (drop from t)
+part_of_front t from n to l =
+    ap (λ m. take n (drop from (take m t))) (let on : to ≡ from + (to - from) = omega arith in on)
+    ∙ ap (take n) (drop-take from (to - from) t)
+    ∙ take-take n (to - from) (drop from t) (omega arith)
 
 -- both have as many squares
 pub same_squares : {w h : ℕ} {t : List ℕ} {j : Block} {from : ℕ} {k : Block} {to : ℕ} {opposite : Bool} → Again w h t j from k to opposite
@@ -192,12 +200,31 @@ module _ {w h : ℕ} {t : List ℕ} {j : Block} {from : ℕ} {k : Block} {to : �
   pub held_agree : Held w t k to → Agree opposite c t from to (k.a * k.b)
   held_agree held i l = held_places w t k to held i l ∙ sym (j_entry i l)
 
-  -- the copy of the one block's places is the other block, entered
-  pub copied_filled : copied opposite c t from to (k.a * k.b) ≡ filled_with false w t k to
-  copied_filled =
-      ap (λ n. copied opposite c t from to n) (same_squares again)
-      ∙ ap (λ zs. over (enter_one false) t to (map (image opposite c) zs)) again.held
-      ∙ ap (over (enter_one false) t to) entries_alike
+  -- the images of the one block's entries are the other's
+  images_are : map (image opposite c) (take (k.a * k.b) (drop from t)) ≡ map (place w) (curve k)
+  images_are =
+      ap (λ n. map (image opposite c) (take n (drop from t))) (same_squares again) ∙ ap (map (image opposite c)) again.held ∙ entries_alike
+
+  -- so the other block stands where these images do; the code takes m places, and n
+  pub images_held : {way : Bool} → way ≡ opposite → (m n : ℕ) → m ≡ k.a * k.b → n ≡ k.a * k.b
+      → (take m (drop to t) ≡ map (image way c) (take n (drop from t)) → Held w t k to)
+      × (Held w t k to → take m (drop to t) ≡ map (image way c) (take n (drop from t)))
+  images_held is_way m n is_m is_n =
+      let there = ap (λ i. take i (drop to t)) is_m in
+      let images = ap₂ (λ o i. map (image o c) (take i (drop from t))) is_way is_n ∙ images_are in
+      (λ e. sym there ∙ e ∙ images, λ held. there ∙ held ∙ sym images)
+
+  -- and is entered where they are: before it the table stays, and behind it
+  pub images_filled : {way : Bool} → way ≡ opposite → {front back ts : List ℕ} → front ≡ take to t → back ≡ drop to t → (n : ℕ) → n ≡ k.a * k.b
+      → ts ≡ map (image way c) (take n (drop from front)) → front ++ (ts ++ drop (k.a * k.b) back) ≡ filled_with false w t k to
+  images_filled is_way {back = back} is_front is_back n is_n is_ts =
+      let fit = both_fit again in
+      let long = length-map (curve k) (place w) ∙ length_curve k again.fits.inside.sized in
+      let early = ap₂ (λ i zs. take i (drop from zs)) is_n is_front ∙ part_of_front t from (k.a * k.b) to fit.1 in
+      ap₂ (λ xs zs. xs ++ (zs ++ drop (k.a * k.b) back)) is_front (is_ts ∙ ap₂ (λ o zs. map (image o c) zs) is_way early ∙ images_are)
+      ∙ ap (λ zs. take to t ++ (map (place w) (curve k) ++ zs))
+      (ap (drop (k.a * k.b)) is_back ∙ drop-drop (k.a * k.b) to t ∙ ap (λ n. drop (to + n) t) (sym long))
+      ∙ sym (numbers_entered t to (map (place w) (curve k)) (omega arith))
 
 -- a block has as many blocks as the one that it repeats
 pub again_count : {w h : ℕ} {t : List ℕ} {j : Block} {from : ℕ} {k : Block} {to : ℕ} {opposite : Bool} → Again w h t j from k to opposite

@@ -1,32 +1,23 @@
 -- What is entered by number from a place on: the places before it stay, and what is entered stands there. So a block that is entered is held, and stays so
 -- under what is entered behind it.
-use Rattle.std.proofs.Common.{◌≡◌, ℕ, suc, ◌+◌, ◌-◌, ◌*◌, ◌<◌, ◌≤◌, Bool, true, false, cond, ◌&&◌, eqb, List, [], ◌∷◌, ◌++◌, map, length, get_or, take, drop}
-use Rattle.std.proofs.Common.{set, sym, refl, ap, ◌∙◌, ap₂, append_assoc, add-zero, add-suc, suc-add, add-one, arith, length-drop, length-set}
-use Rattle.std.proofs.Common.{take-append-drop, length-take-le, get_or-drop, get_or-take, take-suc, take-suc-set, take_at, drop-set-lt, ext_get_or, take-add}
-use Rattle.std.proofs.Common.{drop_at, below_more, eq-eqb, ne_eqb, eqb-true}
-use mathlib.Core.Bool.{and-eq-true_iff}
-use mathlib.Core.List.{map-append}
-use mathlib.Core.Path.{subst⁻¹}
-use borrow.Author.Tests.{eqb-false}
+use Rattle.std.proofs.Common.{◌≡◌, ℕ, suc, ◌+◌, ◌*◌, ◌<◌, ◌≤◌, Bool, true, false, cond, List, [], ◌∷◌, ◌++◌, map, length, get_or, take, drop}
+use Rattle.std.proofs.Common.{set, sym, refl, ap, ◌∙◌, ap₂, append_assoc, add-zero, add-suc, suc-add, arith, length-drop, length-set}
+use Rattle.std.proofs.Common.{take-append-drop, length-take-le, get_or-drop, get_or-take, take-suc-set, take_at, drop-set-lt, ext_get_or, take-add}
+use Rattle.std.proofs.Common.{drop_at}
 use lib.ListN.{length-map}
 use lib.Seq.{take-set-le}
 use Rattle.division.specs.Division.{Block, curve}
 use Rattle.division.specs.Division.Inside.{Sized}
 use Rattle.division.proofs.EachSquareOnce.{length_curve}
 use Rattle.leaves.specs.Walk.{place, over, enter_one, filled_with, Fits}
-use Rattle.leaves.proofs.Entries.{enter_length, over_append}
-use Rattle.terms.specs.Telling.{Tells}
-use Rattle.copies.specs.Copies.{image, copied, Agree, Held}
+use Rattle.leaves.proofs.Entries.{enter_length}
+use Rattle.copies.specs.Copies.{Held}
 
 -- the places before
 over_front : (m : ℕ) (t : List ℕ) (n : ℕ) (ps : List ℕ) → m ≤ n → take m (over (enter_one false) t n ps) ≡ take m t
 unfolding over
 over_front m t n [] l = refl
 over_front m t n (p ∷ ps) l = over_front m (set t n p) (suc n) ps (omega arith) ∙ take-set-le m t n p l
-
-before_kept : (t : List ℕ) (n : ℕ) (ps : List ℕ) (i : ℕ) → i < n → get_or (over (enter_one false) t n ps) i 0 ≡ get_or t i 0
-before_kept t n ps i l =
-    sym (get_or-take n (over (enter_one false) t n ps) i 0 l) ∙ ap (λ zs. get_or zs i 0) (over_front n t n ps (omega arith)) ∙ get_or-take n t i 0 l
 
 -- the places themselves
 pub numbers_entered : (t : List ℕ) (n : ℕ) (ps : List ℕ) → n + length ps ≤ length t
@@ -41,53 +32,10 @@ numbers_entered t n (p ∷ ps) l =
     (drop-set-lt (suc n + length ps) t n p (omega arith) ∙ ap (λ m. drop m t) on)
     ∙ append_assoc (take n t) (p ∷ []) (ps ++ drop (n + suc (length ps)) t)
 
--- one place of a copy more, as the code enters it
-pub copied_more : (opposite : Bool) (c : ℕ) (t : List ℕ) (from to i : ℕ) → from + i < to → to + i < length t → {table next : List ℕ} {v : ℕ}
-    → table ≡ copied opposite c t from to i → v ≡ image opposite c (get_or table (from + i) 0) → next ≡ set table (to + i) v
-    → next ≡ copied opposite c t from to (i + 1)
-unfolding over
-copied_more opposite c t from to i l room was is_v is_next =
-    let rest = drop from t in
-    let left : length rest ≡ length t - from = length-drop from t in
-    let x = get_or t (from + i) 0 in
-    let kept = ap (λ zs. get_or zs (from + i) 0) was ∙ before_kept t to (map (image opposite c) (take i rest)) (from + i) l in
-    is_next
-    ∙ ap₂ (λ zs u. set zs (to + i) u) was (is_v ∙ ap (image opposite c) kept)
-    ∙ sym
-    (ap (λ n. copied opposite c t from to n) (add-one i)
-    ∙ ap (λ zs. over (enter_one false) t to (map (image opposite c) zs))
-    (take-suc rest i 0 (omega arith) ∙ ap (λ u. take i rest ++ (u ∷ [])) (get_or-drop from t i 0))
-    ∙ ap (over (enter_one false) t to) (map-append (image opposite c) (take i rest) (x ∷ []))
-    ∙ over_append (enter_one false) t to (map (image opposite c) (take i rest)) (image opposite c x ∷ [])
-    ∙ ap (λ n. set (copied opposite c t from to i) (to + n) (image opposite c x))
-    (length-map (take i rest) (image opposite c) ∙ length-take-le i rest (omega arith)))
-
--- one place of a comparison more, as the code counts it: all that were looked at agree if so many are counted
-counted : (same i : ℕ) (right known : Bool) → eqb same i ≡ known → same ≤ i → eqb (same + cond right 1 0) (i + 1) ≡ (eqb same i && right)
-counted same i true true e l = let all = eqb-true same i e in eq-eqb (same + 1) (i + 1) (omega arith) ∙ sym (rw e refl)
-counted same i true false e l = ne_eqb (same + 1) (i + 1) (λ z. eqb-false same i e (omega arith)) ∙ sym (rw e refl)
-counted same i false known e l = ne_eqb (same + 0) (i + 1) (λ z. omega arith) ∙ sym (nothing known e)
-  where
-    nothing : (known : Bool) → eqb same i ≡ known → (eqb same i && false) ≡ false
-    nothing true e = rw e refl
-    nothing false e = rw e refl
-
+-- what a count of a test adds
 pub at_most_one : (right : Bool) {more : ℕ} → more ≡ cond right 1 0 → more ≤ 1
 at_most_one true is = omega arith
 at_most_one false is = omega arith
-
-pub agree_more : (opposite : Bool) (c : ℕ) (t : List ℕ) (from to i same v more : ℕ) → v ≡ image opposite c (get_or t (from + i) 0)
-    → more ≡ cond (eqb (get_or t (to + i) 0) v) 1 0 → same ≤ i → Tells (eqb same i) (Agree opposite c t from to i)
-    → Tells (eqb (same + more) (i + 1)) (Agree opposite c t from to (i + 1))
-agree_more opposite c t from to i same v more is counts l tells =
-    let right = eqb (get_or t (to + i) 0) v in
-    let both = and-eq-true_iff (eqb same i) right in
-    let told : eqb (same + more) (i + 1) ≡ (eqb same i && right) =
-    ap (λ m. eqb (same + m) (i + 1)) counts ∙ counted same i right (eqb same i) refl l in
-    subst⁻¹ (λ (r : Bool). Tells r (Agree opposite c t from to (i + 1))) told (
-      λ e. below_more _ i (tells.0 (both.0 e).0) (eqb-true (get_or t (to + i) 0) v (both.0 e).1 ∙ is),
-      λ agree. both.1 (tells.1 (λ j l. agree j (omega arith)), eq-eqb (get_or t (to + i) 0) v (agree i (omega arith) ∙ sym is)),
-    )
 
 -- a block that stands in the table, place by place
 pub held_places : (w : ℕ) (t : List ℕ) (k : Block) (from : ℕ) → Held w t k from → (i : ℕ) → i < k.a * k.b

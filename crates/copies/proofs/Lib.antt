@@ -1,3 +1,4 @@
 pub mod Entered
 pub mod Alike
 pub mod Siblings
+pub mod Images

@@ -4,7 +4,7 @@ use Rattle.std.specs.Prelude.{◌≡◌, ℕ, ◌+◌, ◌-◌, ◌*◌, ◌%◌
 use Rattle.terms.specs.Terms.{past_32_bits}
 use Rattle.division.specs.Division.{Direction, Block, against, curve}
 use Rattle.division.specs.Division.Inside.{Inside}
-use Rattle.leaves.specs.Walk.{place, over, enter_one, Fits}
+use Rattle.leaves.specs.Walk.{place, Fits}
 
 -- A place of one block as the other has it, in 32 bits: c more, or what is left of c.
 abbrev pub image : (opposite : Bool) (c x : ℕ) → ℕ
@@ -14,10 +14,6 @@ image false c x = (x + c) % past_32_bits
 -- A direction as the other block has it.
 abbrev pub facing : (opposite : Bool) → Direction → Direction
 facing opposite d = cond opposite (against d) d
-
--- The table with n places entered from `to` on: the images of those from `from` on.
-abbrev pub copied : (opposite : Bool) (c : ℕ) → List ℕ → (from to n : ℕ) → List ℕ
-copied opposite c t from to n = over (enter_one false) t to (map (image opposite c) (take n (drop from t)))
 
 -- Each of n places from `to` on is what a copy would enter there.
 abbrev pub Agree : (opposite : Bool) (c : ℕ) → List ℕ → (from to n : ℕ) → Type 0

@@ -63,10 +63,10 @@ squares_fit {w} {h} f = product_limit w h f.w_limit f.h_limit
 
 -- the whole area fits a table of as many places as it has squares
 pub whole_fits : (kind : Bool) (w h size : ℕ) → 1 ≤ w → w ≤ longest_side → 1 ≤ h → h ≤ longest_side → w * h ≤ size → (k : Block) → k ≡ whole w h
-    → Fits kind w h size k 0
+    → {at : ℕ} → at ≡ 0 → Fits kind w h size k at
 unfolding whole
-whole_fits kind w h size some_w most_w some_h most_h room k is =
-    subst⁻¹ (λ (k : Block). Fits kind w h size k 0) is
+whole_fits kind w h size some_w most_w some_h most_h room k is {at} begins =
+    subst⁻¹ (λ (k : Block). Fits kind w h size k at) is
     (record {
       w_limit = most_w;
       h_limit = most_h;

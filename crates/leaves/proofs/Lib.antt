@@ -3,3 +3,4 @@ pub mod Straight
 pub mod Leaves
 pub mod Checks
 pub mod PartByPart
+pub mod Counted

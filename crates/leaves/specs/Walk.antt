@@ -1,9 +1,12 @@
 -- What the walks that fill and check a table ask and leave: for each square of a block, in the curve's order, an entry stored or a place looked at.
 -- For one block, the fills and the check of document 01, "What a lookup and a table say".
-use Rattle.std.specs.Prelude.{Bool, true, cond, List, [], ◌∷◌, map, ◌≡◌, ℕ, suc, ◌+◌, ◌*◌, ◌/◌, ◌%◌, ◌≤◌, min, eqb, get_or, set}
+use Rattle.std.specs.Prelude.{Bool, true, cond, Option, Some, None, List, [], ◌∷◌, map, ◌≡◌, ℕ, suc, ◌+◌, ◌*◌, ◌≤◌, ◌<◌, leb, eqb, get_or, set}
 use Rattle.terms.specs.Terms.{longest_side, past_32_bits}
 use Rattle.division.specs.Division.{Square, Block, moved, curve}
 use Rattle.division.specs.Division.Inside.{Inside}
+use Rattle.division.specs.declared.Choice.{Choice}
+use Rattle.division.specs.Forms.{CutBy}
+use Rattle.leaves.specs.declared.Numbered.{Numbered}
 use Rattle.leaves.specs.declared.Wrong.{Wrong}
 
 -- A square's place in a table by square, which is what a table by number holds.
@@ -25,19 +28,21 @@ enter_one by_square t n p = set t (cond by_square p n) (cond by_square n p)
 abbrev pub filled_with : (by_square : Bool) (w : ℕ) → List ℕ → Block → (at : ℕ) → List ℕ
 filled_with by_square w t k at = over_block (enter_one by_square) t w k at
 
--- A wrong place and the value due there as one number: of two, the lesser place has the lesser number.
-abbrev pub wrong_packed : (place due : ℕ) → ℕ
-wrong_packed place due = place * past_32_bits + due
+-- Of the wrong place found so far and another one, the one that comes first in the table. Whether none was found before a place.
+abbrev pub sooner : Option Wrong → Wrong → Option Wrong
+sooner None wrong = Some wrong
+sooner (Some found) wrong = cond (leb found.place wrong.place) (Some found) (Some wrong)
 
-abbrev pub wrong_unpacked : (packed : ℕ) → Wrong
-wrong_unpacked packed = record { place = packed / past_32_bits; due = packed % past_32_bits }
+abbrev pub none_before : (place : ℕ) → Option Wrong → Bool
+none_before place None = true
+none_before place (Some found) = leb place found.place
 
 -- The least wrong place so far, with square number n, at place p, looked at: by square n is due at p, else p at n. So, with a block's squares.
-abbrev pub least_one : (by_square : Bool) → List ℕ → (least n p : ℕ) → ℕ
+abbrev pub least_one : (by_square : Bool) → List ℕ → (least : Option Wrong) → (n p : ℕ) → Option Wrong
 least_one by_square t least n p =
-    cond (eqb (get_or t (cond by_square p n) 0) (cond by_square n p)) least (min least (wrong_packed (cond by_square p n) (cond by_square n p)))
+    cond (eqb (get_or t (cond by_square p n) 0) (cond by_square n p)) least (sooner least (record { place = cond by_square p n; due = cond by_square n p }))
 
-abbrev pub checked : (by_square : Bool) (w : ℕ) → List ℕ → Block → (at least : ℕ) → ℕ
+abbrev pub checked : (by_square : Bool) (w : ℕ) → List ℕ → Block → (at : ℕ) → Option Wrong → Option Wrong
 checked by_square w t k at least = over_block (least_one by_square t) least w k at
 
 -- A block that lies within its area, and whose numbers from `at` on are the area's, with room for it in a table of `size` places: by number as far as the
@@ -49,6 +54,10 @@ pub record Fits (by_square : Bool) (w h size : ℕ) (k : Block) (at : ℕ) : Typ
   pub numbers : at + k.a * k.b ≤ w * h
   pub room : at + k.a * k.b ≤ size
   pub places : by_square ≡ true → w * h ≤ size
+
+-- A block whose numbers are 32-bit ones, which the choice rule cuts so.
+abbrev pub Countable : Choice → Numbered → Type 0
+Countable case k = CutBy case k.placed × (k.first + k.placed.a * k.placed.b < past_32_bits)
 
 -- A block with run and side exchanged: where it is straight, the same squares in the same order.
 unfoldable pub exchanged : Block → Block

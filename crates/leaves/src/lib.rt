@@ -1,28 +1,134 @@
 // The blocks that a walk over a table does not cut: straight ones, and those 2 wide and 2 or 3 deep, to which most squares of a large area belong.
 #![tactic(auto)]
 
-ghost use Rattle.std.specs.Prelude.{cond, ◌≡◌, ◌+◌, ◌≤◌, ◌<◌, length};
+ghost use Rattle.std.specs.Prelude.{Bool, true, false, cond, ◌≡◌, ◌+◌, ◌-◌, ◌*◌, ◌/◌, ◌≤◌, ◌<◌, length};
 ghost use Rattle.terms.specs.Terms.{longest_side, past_32_bits};
-ghost use Rattle.division.specs.declared.Choice.TheVariants.{StraightRun};
-ghost use Rattle.division.specs.Division.{square, whole, choice, blocks};
+ghost use Rattle.division.specs.declared.Choice.TheVariants.{StraightRun, LongCut, UCut};
+ghost use Rattle.division.specs.Division.{square, whole, choice, even_half, Part, First, Second, B, C, part, blocks};
 ghost use Rattle.division.specs.Division.Inside.{Inside};
 ghost use Rattle.division.specs.Forms.{block};
-ghost use Rattle.leaves.specs.Walk.{place, enter_one, filled_with, exchanged, near, far, Fits, least_one, checked, wrong_packed, wrong_unpacked};
+ghost use Rattle.leaves.specs.Walk.{place, Countable, enter_one, filled_with, exchanged, near, far, Fits, none_before, least_one, checked};
 
 use division::Placed;
 use terms::Area;
 
-// The whole area as a block, on which a walk begins.
-pub fn whole_block(area: Area) -> Placed
-    ensures { block result ≡ whole area.w area.h }
-{
-    Placed {
-        along: 0,
-        across: 0,
-        turned: false,
-        back: false,
-        a: area.w,
-        b: area.h,
+// The kind of a table, which is known when a walk over it is compiled.
+pub trait Kind {
+    ghost BY_SQUARE: { Bool };
+
+    const BY_SQUARE: bool;
+}
+
+// Place i holds the place of square number i.
+pub struct ByNumber;
+
+impl Kind for ByNumber {
+    ghost BY_SQUARE = { false };
+
+    const BY_SQUARE: bool = false;
+}
+
+// A square's place holds its number.
+pub struct BySquare;
+
+impl Kind for BySquare {
+    ghost BY_SQUARE = { true };
+
+    const BY_SQUARE: bool = true;
+}
+
+// A block of the division, whose squares are numbered on from `first`: what a walk goes over.
+#[derive(Clone, Copy)]
+pub struct Numbered {
+    pub placed: Placed,
+    pub first: u32,
+}
+
+impl Numbered {
+    // The whole area, on which a walk begins.
+    pub fn whole(area: Area) -> Numbered
+        ensures placed { block result.placed ≡ whole area.w area.h }
+        ensures first { result.first ≡ 0 }
+    {
+        let placed = Placed {
+            along: 0,
+            across: 0,
+            turned: false,
+            back: false,
+            a: area.w,
+            b: area.h,
+        };
+        Numbered { placed, first: 0 }
+    }
+
+    // With run and side exchanged.
+    pub fn exchanged(self) -> Numbered
+        ensures placed { block result.placed ≡ exchanged (block self.placed) }
+        ensures first { result.first ≡ self.first }
+    {
+        let placed = Placed {
+            along: self.placed.across,
+            across: self.placed.along,
+            turned: !self.placed.turned,
+            back: self.placed.back,
+            a: self.placed.b,
+            b: self.placed.a,
+        };
+        Numbered {
+            placed,
+            first: self.first,
+        }
+    }
+
+    // The long cut's second part, or its first.
+    pub fn long_part(self, second: bool) -> Numbered
+        requires { Countable LongCut self }
+        ensures placed { block result.placed ≡ part (cond second Second First) (block self.placed) }
+        ensures first { result.first ≡ self.first + cond second (even_half self.placed.a * self.placed.b) 0 }
+    {
+        let skip = division::even_half(self.placed.a) * self.placed.b;
+        Numbered {
+            placed: self.placed.long_part(second),
+            first: self.first + division::either(second, skip, 0),
+        }
+    }
+
+    // The U cut's three parts.
+    pub fn part_a(self) -> Numbered
+        requires { Countable UCut self }
+        ensures placed { block result.placed ≡ part Part.A (block self.placed) }
+        ensures first { result.first ≡ self.first }
+    {
+        Numbered {
+            placed: self.placed.part_a(),
+            first: self.first,
+        }
+    }
+
+    pub fn part_b(self) -> Numbered
+        requires { Countable UCut self }
+        ensures placed { block result.placed ≡ part B (block self.placed) }
+        ensures first { result.first ≡ self.first + even_half self.placed.b * (self.placed.a / 2) }
+    {
+        let e = division::even_half(self.placed.b);
+        Numbered {
+            placed: self.placed.part_b(),
+            first: self.first + e * (self.placed.a / 2),
+        }
+    }
+
+    pub fn part_c(self) -> Numbered
+        requires { Countable UCut self }
+        ensures placed { block result.placed ≡ part C (block self.placed) }
+        ensures first { result.first ≡ self.first + even_half self.placed.b * (self.placed.a / 2)
+            + self.placed.a * (self.placed.b - even_half self.placed.b) }
+    {
+        let e = division::even_half(self.placed.b);
+        let to_b = self.first + e * (self.placed.a / 2);
+        Numbered {
+            placed: self.placed.part_c(),
+            first: to_b + self.placed.a * (self.placed.b - e),
+        }
     }
 }
 
@@ -35,49 +141,40 @@ pub fn place_of(along: u32, across: u32, turned: bool, w: u32) -> u32
 }
 
 // Enters square number n, which has the place p.
-fn enter(table: &mut [u32], n: u32, p: u32, by_square: bool)
-    requires { cond by_square p n < length table.old }
-    ensures { table.new ≡ enter_one by_square table.old n p }
+fn enter<T: Kind>(table: &mut [u32], n: u32, p: u32)
+    requires { cond T.BY_SQUARE p n < length table.old }
+    ensures { table.new ≡ enter_one T.BY_SQUARE table.old n p }
 {
-    let i = division::either(by_square, p, n) as usize;
-    table[i] = division::either(by_square, n, p);
+    let i = division::either(T::BY_SQUARE, p, n) as usize;
+    table[i] = division::either(T::BY_SQUARE, n, p);
 }
 
 // The squares of a straight block, which follow in its run.
-pub fn fill_straight(table: &mut [u32], k: Placed, area: Area, at: u32, by_square: bool) -> u64
-    requires { Fits by_square area.w area.h (length table.old) (block k) at × (choice k.a k.b ≡ StraightRun) }
-    ensures table { table.new ≡ filled_with by_square area.w table.old (block k) at }
-    ensures count { result ≡ length (blocks (block k)) }
+pub fn fill_straight<T: Kind>(table: &mut [u32], k: Numbered, area: Area) -> u64
+    requires { Fits T.BY_SQUARE area.w area.h (length table.old) (block k.placed) k.first × (choice k.placed.a k.placed.b ≡ StraightRun) }
+    ensures table { table.new ≡ filled_with T.BY_SQUARE area.w table.old (block k.placed) k.first }
+    ensures count { result ≡ length (blocks (block k.placed)) }
 {
     let w = area.w;
-    for i in 0..k.a {
-        let p = place_of(division::stepped(k.along, i, k.back), k.across, k.turned, w);
-        enter(table, at + i, p, by_square);
+    for i in 0..k.placed.a {
+        let p = place_of(
+            division::stepped(k.placed.along, i, k.placed.back),
+            k.placed.across,
+            k.placed.turned,
+            w,
+        );
+        enter::<T>(table, k.first + i, p);
     }
     1
 }
 
-// A block with run and side exchanged.
-pub fn exchanged_block(k: Placed) -> Placed
-    ensures { block result ≡ exchanged (block k) }
-{
-    Placed {
-        along: k.across,
-        across: k.along,
-        turned: !k.turned,
-        back: k.back,
-        a: k.b,
-        b: k.a,
-    }
-}
-
 // Enters two squares, numbered on from n.
-fn enter_two(table: &mut [u32], n: u32, p: u32, q: u32, by_square: bool)
-    requires { (n + 1 < past_32_bits) × (cond by_square p n < length table.old) × (cond by_square q (n + 1) < length table.old) }
-    ensures { table.new ≡ enter_one by_square (enter_one by_square table.old n p) (n + 1) q }
+fn enter_two<T: Kind>(table: &mut [u32], n: u32, p: u32, q: u32)
+    requires { (n + 1 < past_32_bits) × (cond T.BY_SQUARE p n < length table.old) × (cond T.BY_SQUARE q (n + 1) < length table.old) }
+    ensures { table.new ≡ enter_one T.BY_SQUARE (enter_one T.BY_SQUARE table.old n p) (n + 1) q }
 {
-    enter(table, n, p, by_square);
-    enter(table, n + 1, q, by_square);
+    enter::<T>(table, n, p);
+    enter::<T>(table, n + 1, q);
 }
 
 // The places of two squares of a block 2 wide, side by side: one on its start's line, one a step along its run.
@@ -103,121 +200,111 @@ fn rung_at(k: Placed, v: u32, area: Area) -> Rung
 }
 
 // A block 2 wide and 2 or 3 deep, at once, up its side and down again: most of a large area's squares lie in one.
-pub fn fill_leaf(table: &mut [u32], k: Placed, area: Area, at: u32, by_square: bool) -> u64
-    requires { Fits by_square area.w area.h (length table.old) (block k) at × (k.a ≡ 2) × (2 ≤ k.b) × (k.b ≤ 3) }
-    ensures table { table.new ≡ filled_with by_square area.w table.old (block k) at }
-    ensures count { result ≡ length (blocks (block k)) }
+pub fn fill_leaf<T: Kind>(table: &mut [u32], k: Numbered, area: Area) -> u64
+    requires { Fits T.BY_SQUARE area.w area.h (length table.old) (block k.placed) k.first × (k.placed.a ≡ 2) × (2 ≤ k.placed.b) × (k.placed.b ≤ 3) }
+    ensures table { table.new ≡ filled_with T.BY_SQUARE area.w table.old (block k.placed) k.first }
+    ensures count { result ≡ length (blocks (block k.placed)) }
 {
-    let deep = k.b;
-    let low = rung_at(k, 0, area);
-    let middle = rung_at(k, 1, area);
-    enter_two(table, at, low.near, middle.near, by_square);
+    let deep = k.placed.b;
+    let low = rung_at(k.placed, 0, area);
+    let middle = rung_at(k.placed, 1, area);
+    enter_two::<T>(table, k.first, low.near, middle.near);
     if deep == 2 {
-        enter_two(table, at + 2, middle.far, low.far, by_square);
+        enter_two::<T>(table, k.first + 2, middle.far, low.far);
         return 4;
     }
-    let high = rung_at(k, 2, area);
-    enter_two(table, at + 2, high.near, high.far, by_square);
-    enter_two(table, at + 4, middle.far, low.far, by_square);
+    let high = rung_at(k.placed, 2, area);
+    enter_two::<T>(table, k.first + 2, high.near, high.far);
+    enter_two::<T>(table, k.first + 4, middle.far, low.far);
     4
 }
 
 // A wrong place and the value due there.
-#[derive(Clone, Copy)]
+#[derive(Clone, Copy, Debug, PartialEq, Eq)]
 pub struct Wrong {
     pub place: u32,
     pub due: u32,
 }
 
-// Both packed into one number, of which the lesser has the lesser place, and taken out again.
-pub fn pack_wrong(place: u32, due: u32) -> u64
-    ensures { result ≡ wrong_packed place due }
+// Whether nothing wrong was found before a place.
+pub fn none_before(place: u32, least: Option<Wrong>) -> bool
+    ensures { result ≡ none_before place least }
 {
-    place as u64 * terms::PAST_32_BITS + due as u64
-}
-
-pub fn unpack_wrong(packed: u64) -> Wrong
-    ensures { result ≡ wrong_unpacked packed }
-{
-    Wrong {
-        place: (packed / terms::PAST_32_BITS) as u32,
-        due: (packed % terms::PAST_32_BITS) as u32,
-    }
+    least.is_none_or(|found| place <= found.place)
 }
 
 // The least wrong place so far, with square number n, which has the place p, looked at.
-fn compare(table: &[u32], n: u32, p: u32, by_square: bool, least: u64) -> u64
-    requires { cond by_square p n < length table.now }
-    ensures { result ≡ least_one by_square table.now least n p }
+fn compare<T: Kind>(table: &[u32], n: u32, p: u32, least: Option<Wrong>) -> Option<Wrong>
+    requires { cond T.BY_SQUARE p n < length table.now }
+    ensures { result ≡ least_one T.BY_SQUARE table.now least n p }
 {
-    let place = division::either(by_square, p, n);
-    let due = division::either(by_square, n, p);
-    let i = place as usize;
-    if table[i] == due {
+    let place = division::either(T::BY_SQUARE, p, n);
+    let due = division::either(T::BY_SQUARE, n, p);
+    if table[place as usize] == due {
         return least;
     }
-    let wrong = pack_wrong(place, due);
-    if wrong < least {
-        return wrong;
+    match least {
+        Some(found) if found.place <= place => least,
+        _ => Some(Wrong { place, due }),
     }
-    least
 }
 
 // The squares of a straight block, which follow in its run.
-pub fn check_straight(
+pub fn check_straight<T: Kind>(
     table: &[u32],
-    k: Placed,
+    k: Numbered,
     area: Area,
-    at: u32,
-    by_square: bool,
-    so_far: u64,
-) -> u64
-    requires { Fits by_square area.w area.h (length table.now) (block k) at × (choice k.a k.b ≡ StraightRun) }
-    ensures { result ≡ checked by_square area.w table.now (block k) at so_far }
+    so_far: Option<Wrong>,
+) -> Option<Wrong>
+    requires { Fits T.BY_SQUARE area.w area.h (length table.now) (block k.placed) k.first × (choice k.placed.a k.placed.b ≡ StraightRun) }
+    ensures { result ≡ checked T.BY_SQUARE area.w table.now (block k.placed) k.first so_far }
 {
     let w = area.w;
     let mut least = so_far;
-    for i in 0..k.a {
-        let p = place_of(division::stepped(k.along, i, k.back), k.across, k.turned, w);
-        least = compare(table, at + i, p, by_square, least);
+    for i in 0..k.placed.a {
+        let p = place_of(
+            division::stepped(k.placed.along, i, k.placed.back),
+            k.placed.across,
+            k.placed.turned,
+            w,
+        );
+        least = compare::<T>(table, k.first + i, p, least);
     }
     least
 }
 
 // Looks at two squares, numbered on from n.
-fn compare_two(table: &[u32], n: u32, p: u32, q: u32, by_square: bool, least: u64) -> u64
-    requires { (n + 1 < past_32_bits) × (cond by_square p n < length table.now) × (cond by_square q (n + 1) < length table.now) }
-    ensures { result ≡ least_one by_square table.now (least_one by_square table.now least n p) (n + 1) q }
+fn compare_two<T: Kind>(
+    table: &[u32],
+    n: u32,
+    p: u32,
+    q: u32,
+    least: Option<Wrong>,
+) -> Option<Wrong>
+    requires { (n + 1 < past_32_bits) × (cond T.BY_SQUARE p n < length table.now) × (cond T.BY_SQUARE q (n + 1) < length table.now) }
+    ensures { result ≡ least_one T.BY_SQUARE table.now (least_one T.BY_SQUARE table.now least n p) (n + 1) q }
 {
-    compare(
-        table,
-        n + 1,
-        q,
-        by_square,
-        compare(table, n, p, by_square, least),
-    )
+    compare::<T>(table, n + 1, q, compare::<T>(table, n, p, least))
 }
 
 // A block 2 wide and 2 or 3 deep, at once.
-pub fn check_leaf(
+pub fn check_leaf<T: Kind>(
     table: &[u32],
-    k: Placed,
+    k: Numbered,
     area: Area,
-    at: u32,
-    by_square: bool,
-    so_far: u64,
-) -> u64
-    requires { Fits by_square area.w area.h (length table.now) (block k) at × (k.a ≡ 2) × (2 ≤ k.b) × (k.b ≤ 3) }
-    ensures { result ≡ checked by_square area.w table.now (block k) at so_far }
+    so_far: Option<Wrong>,
+) -> Option<Wrong>
+    requires { Fits T.BY_SQUARE area.w area.h (length table.now) (block k.placed) k.first × (k.placed.a ≡ 2) × (2 ≤ k.placed.b) × (k.placed.b ≤ 3) }
+    ensures { result ≡ checked T.BY_SQUARE area.w table.now (block k.placed) k.first so_far }
 {
-    let deep = k.b;
-    let low = rung_at(k, 0, area);
-    let middle = rung_at(k, 1, area);
-    let first = compare_two(table, at, low.near, middle.near, by_square, so_far);
+    let deep = k.placed.b;
+    let low = rung_at(k.placed, 0, area);
+    let middle = rung_at(k.placed, 1, area);
+    let first = compare_two::<T>(table, k.first, low.near, middle.near, so_far);
     if deep == 2 {
-        return compare_two(table, at + 2, middle.far, low.far, by_square, first);
+        return compare_two::<T>(table, k.first + 2, middle.far, low.far, first);
     }
-    let high = rung_at(k, 2, area);
-    let second = compare_two(table, at + 2, high.near, high.far, by_square, first);
-    compare_two(table, at + 4, middle.far, low.far, by_square, second)
+    let high = rung_at(k.placed, 2, area);
+    let second = compare_two::<T>(table, k.first + 2, high.near, high.far, first);
+    compare_two::<T>(table, k.first + 4, middle.far, low.far, second)
 }

@@ -1,19 +1,14 @@
--- The goals of `copies::agree`, under what stands in `Invariants.antt`.
-use Rattle.std.proofs.Common.{◌+◌, ◌≤◌, eqb, get_or, arith}
-use Rattle.copies.proofs.Entered.{at_most_one}
+-- `copies::agree` meets its contract: the test over both lists is true exactly where the one is the other's images.
+use Rattle.std.proofs.Common.{true, rules, tests}
+use Rattle.std.proofs.lemmas.Iterator.{YieldsList-from_slice, YieldsList-from_zip}
+use Rattle.std.proofs.lemmas.Iterator.Consumers.{fold_from_yields_List}
+use Rattle.copies.specs.Copies.{image}
+use Rattle.copies.proofs.Images.{both, images_told}
 use Rattle.copies.proofs.agree.Goals as goal
 
--- with one place more, no more are counted than were looked at
-still_few : (c : goal.After-either-same) →
-    c.loop-i.same + c.either-same.result ≤ c.loop-i.i + 1
-still_few c =
-    let given = c.args in
-    let one = at_most_one (eqb (get_or given.table.now (given.to + c.loop-i.i) 0) c.image_of.result) c.either-same.ensures in
-    let few = c.loop-i.invariant.1 in
-    omega arith
-
-pub overflow_add-same : goal.overflow_add-same
-overflow_add-same c =
-    let few = still_few c in
-    let more = c.loop-i-test.true in
-    record { fits = omega (arith, c.ranges.n) }
+pub returns : goal.returns
+returns c =
+    let f = image c.args.by.opposite c.args.by.c in
+    images_told f c.args.earlier.now c.args.later.now c.requires
+    (fold_from_yields_List _ (both f) true _ c.fold.ensures.ran
+    (YieldsList-from_zip (YieldsList-from_slice c.args.later.now cc) (YieldsList-from_slice c.args.earlier.now cc)) (λ a x b q k. search (rules, tests)))

@@ -6,5 +6,5 @@ use Rattle.leaves.proofs.Straight.{run_places}
 use Rattle.leaves.proofs.check_straight.Given as goal
 
 abbrev pub invariant-loop-i : goal.invariant-loop-i
-invariant-loop-i l =
-    (l.i ≤ l.i-end) × (l.least ≡ over (least_one l.by_square l.table) l.so_far l.at (run_places l.k l.w l.i))
+invariant-loop-i g l =
+    (l.i ≤ l.i-end) × (l.least ≡ over (least_one g.T.Kind.BY_SQUARE l.table) l.fn.so_far l.k.first (run_places l.k.placed l.w l.i))

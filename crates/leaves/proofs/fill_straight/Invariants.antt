@@ -6,4 +6,4 @@ use Rattle.leaves.proofs.Straight.{run_places}
 use Rattle.leaves.proofs.fill_straight.Given as goal
 
 abbrev pub invariant-loop-i : goal.invariant-loop-i
-invariant-loop-i l = (l.i ≤ l.i-end) × (l.table ≡ over (enter_one l.by_square) l.initial.table l.at (run_places l.k l.w l.i))
+invariant-loop-i g l = (l.i ≤ l.i-end) × (l.table ≡ over (enter_one g.T.Kind.BY_SQUARE) l.initial.table l.k.first (run_places l.k.placed l.w l.i))

@@ -1,11 +1,11 @@
--- `copies::between` meets its contract: the sum of the two places, or their difference, leads from one to the other.
+-- `copies::Image::between` meets its contract: the sum of the two places, or their difference, leads from one to the other.
 use Rattle.std.proofs.Common.{◌≡◌, ℕ, ◌+◌, ◌%◌, ◌<◌, true, false, arith}
 use Rattle.terms.specs.Terms.{past_32_bits}
 use Rattle.division.specs.Forms.{block}
 use Rattle.division.proofs.WithinLimits.{product_limit}
 use Rattle.copies.specs.Copies.{image}
 use Rattle.copies.proofs.Alike.{start_below}
-use Rattle.copies.proofs.between.Goals as goal
+use Rattle.copies.proofs.Image.between.Goals as goal
 
 by_sum : {p q r : ℕ} → p < past_32_bits → q < past_32_bits → r ≡ (p + q) % past_32_bits → q ≡ image true r p
 by_sum l m is = omega arith
