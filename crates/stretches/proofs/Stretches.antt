@@ -105,12 +105,13 @@ module _ (w h : ℕ) (some_w : 1 ≤ w) (some_h : 1 ≤ h) (first n : ℕ) (room
       (entry_below w h (whole w h) (whole_inside w h some_w some_h) (first + i) (omega arith))
 
   -- the walk over the whole area leaves them
-  pub all_entries : (t : List ℕ) → length t ≡ n → {k : Block} → k ≡ whole w h → {s : List ℕ} → s ≡ stretched first w t k 0 → s ≡ entries_from w h first n
-  all_entries t size is_k is =
+  pub all_entries : (t : List ℕ) → length t ≡ n → {k : Block} → k ≡ whole w h → {at : ℕ} → at ≡ 0 → {s : List ℕ} → s ≡ stretched first w t k at
+      → s ≡ entries_from w h first n
+  all_entries t size is_k begins is =
       let ps = map (place w) (curve (whole w h)) in
       let all = all_places in
       let same = over_length first t 0 ps in
       is
-      ∙ ap (λ k. stretched first w t k 0) is_k
+      ∙ ap₂ (λ k n. stretched first w t k n) is_k begins
       ∙ ext_get_or 0 (over (put_from first) t 0 ps) (entries_from w h first n) (same ∙ size ∙ sym entries_length)
       (λ i l. there first t 0 ps i (first + i) (omega arith) (omega arith) (omega arith) ∙ sym (entry_at i (omega arith)))

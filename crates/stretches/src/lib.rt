@@ -9,34 +9,34 @@ ghost use Rattle.division.specs.Division.{choice};
 ghost use Rattle.division.specs.Forms.{block};
 ghost use Rattle.stretches.specs.Stretch.{stretched, Lies, entries_from};
 
-use division::{Choice, Placed};
+use division::Choice;
+use leaves::{ByNumber, Numbered};
 use terms::Area;
 
 // How many of n numbers from `at` on lie below a bound.
 fn numbers_below(bound: usize, at: u32, n: u32) -> u32
     ensures { result ≡ min n (bound - at) }
 {
-    let start = at as usize;
-    if bound <= start {
-        return 0;
-    }
-    let left = bound - start;
-    if n as usize <= left {
-        return n;
-    }
-    left as u32
+    (n as usize).min(bound.saturating_sub(at as usize)) as u32
 }
 
-// The squares of a straight block that have their numbers in the stretch.
-fn put_straight(out: &mut [u32], first: u32, k: Placed, area: Area, at: u32)
-    requires { Lies area.w area.h (block k) at × (choice k.a k.b ≡ StraightRun) }
-    ensures { out.new ≡ stretched first area.w out.old (block k) at }
+// The squares of a straight block that have their numbers in the stretch. The list and its first number are no struct: that would hold a `&mut`, and each call
+// would lend it anew.
+fn put_straight(out: &mut [u32], first: u32, k: Numbered, area: Area)
+    requires { Lies area.w area.h (block k.placed) k.first × (choice k.placed.a k.placed.b ≡ StraightRun) }
+    ensures { out.new ≡ stretched first area.w out.old (block k.placed) k.first }
 {
     let w = area.w;
-    let skip = numbers_below(first as usize, at, k.a);
-    let end = numbers_below(first as usize + out.len(), at, k.a);
+    let at = k.first;
+    let skip = numbers_below(first as usize, at, k.placed.a);
+    let end = numbers_below(first as usize + out.len(), at, k.placed.a);
     for i in skip..end {
-        let p = leaves::place_of(division::stepped(k.along, i, k.back), k.across, k.turned, w);
+        let p = leaves::place_of(
+            division::stepped(k.placed.along, i, k.placed.back),
+            k.placed.across,
+            k.placed.turned,
+            w,
+        );
         out[(at + i - first) as usize] = p;
     }
 }
@@ -44,58 +44,53 @@ fn put_straight(out: &mut [u32], first: u32, k: Placed, area: Area, at: u32)
 // A block, unless it lies wholly before the stretch or behind it. One that lies wholly in it is filled, with what repeats copied. It and the two cuts call each
 // other; the block's area falls.
 #[cycle(stretch)]
-fn stretch_block(out: &mut [u32], first: u32, k: Placed, area: Area, at: u32)
-    requires { Lies area.w area.h (block k) at }
-    ensures { out.new ≡ stretched first area.w out.old (block k) at }
+fn stretch_block(out: &mut [u32], first: u32, k: Numbered, area: Area)
+    requires { Lies area.w area.h (block k.placed) k.first }
+    ensures { out.new ≡ stretched first area.w out.old (block k.placed) k.first }
 {
-    let n = k.a * k.b;
+    let at = k.first;
+    let n = k.placed.a * k.placed.b;
     if at + n <= first {
         return;
     }
     if first as usize + out.len() <= at as usize {
         return;
     }
-    if first <= at {
-        if (at - first) as usize + n as usize <= out.len() {
-            fills::fill_block(out, k, area, at - first, false);
-            return;
-        }
+    if first <= at && (at - first) as usize + n as usize <= out.len() {
+        let in_stretch = Numbered {
+            placed: k.placed,
+            first: at - first,
+        };
+        fills::fill_block::<ByNumber>(out, in_stretch, area);
+        return;
     }
-    let case = division::choose(k.a, k.b);
-    match case {
-        Choice::StraightRun => put_straight(out, first, k, area, at),
-        Choice::StraightSide => put_straight(out, first, leaves::exchanged_block(k), area, at),
-        Choice::LongCut => stretch_long_cut(out, first, k, area, at),
-        Choice::UCut => stretch_u_cut(out, first, k, area, at),
+    match division::choose(k.placed.a, k.placed.b) {
+        Choice::StraightRun => put_straight(out, first, k, area),
+        Choice::StraightSide => put_straight(out, first, k.exchanged(), area),
+        Choice::LongCut => stretch_long_cut(out, first, k, area),
+        Choice::UCut => stretch_u_cut(out, first, k, area),
     }
 }
 
 // The two parts of a long cut.
 #[cycle(stretch)]
-fn stretch_long_cut(out: &mut [u32], first: u32, k: Placed, area: Area, at: u32)
-    requires { Lies area.w area.h (block k) at × (choice k.a k.b ≡ LongCut) }
-    ensures { out.new ≡ stretched first area.w out.old (block k) at }
+fn stretch_long_cut(out: &mut [u32], first: u32, k: Numbered, area: Area)
+    requires { Lies area.w area.h (block k.placed) k.first × (choice k.placed.a k.placed.b ≡ LongCut) }
+    ensures { out.new ≡ stretched first area.w out.old (block k.placed) k.first }
 {
-    let to_second = at + division::even_half(k.a) * k.b;
-    stretch_block(out, first, division::long_part(k, false), area, at);
-    stretch_block(out, first, division::long_part(k, true), area, to_second);
+    stretch_block(out, first, k.long_part(false), area);
+    stretch_block(out, first, k.long_part(true), area);
 }
 
-// The three parts of a U cut, which have one place in memory: a walk's stack is as deep as its blocks.
+// The three parts of a U cut.
 #[cycle(stretch)]
-fn stretch_u_cut(out: &mut [u32], first: u32, k: Placed, area: Area, at: u32)
-    requires { Lies area.w area.h (block k) at × (choice k.a k.b ≡ UCut) }
-    ensures { out.new ≡ stretched first area.w out.old (block k) at }
+fn stretch_u_cut(out: &mut [u32], first: u32, k: Numbered, area: Area)
+    requires { Lies area.w area.h (block k.placed) k.first × (choice k.placed.a k.placed.b ≡ UCut) }
+    ensures { out.new ≡ stretched first area.w out.old (block k.placed) k.first }
 {
-    let e = division::even_half(k.b);
-    let to_b = at + e * (k.a / 2);
-    let to_c = to_b + k.a * (k.b - e);
-    let mut part = division::part_a(k);
-    stretch_block(out, first, part, area, at);
-    part = division::part_b(k);
-    stretch_block(out, first, part, area, to_b);
-    part = division::part_c(k);
-    stretch_block(out, first, part, area, to_c);
+    stretch_block(out, first, k.part_a(), area);
+    stretch_block(out, first, k.part_b(), area);
+    stretch_block(out, first, k.part_c(), area);
 }
 
 // The entries of the numbers from `first` on, as many as there are places for.
@@ -103,5 +98,5 @@ pub fn stretch(area: Area, first: u32, out: &mut [u32])
     requires { (1 ≤ area.w) × (area.w ≤ longest_side) × (1 ≤ area.h) × (area.h ≤ longest_side) × (first + length out.old ≤ area.w * area.h) }
     ensures { out.new ≡ entries_from area.w area.h first (length out.old) }
 {
-    stretch_block(out, first, leaves::whole_block(area), area, 0);
+    stretch_block(out, first, Numbered::whole(area), area);
 }

@@ -5,16 +5,14 @@ use mathlib.Core.Path.{◌≡◌, refl, sym, ap, ◌∙◌}
 use Prim.Native.Nat.{ℕ, ◌+◌, ◌*◌}
 use native.Mathlib.Omega.{arith}
 use borrow.Author.Tests.{eq-eqb, ne_eqb, eqb-true, le-ltb}
-use lib.Dec.{ltb, eqb, lit<}
+use lib.Dec.{ltb, lit<}
 use lib.ListN.{length}
 use Rattle.terms.specs.declared.Refusal.{Refusal}
-use Rattle.terms.specs.declared.Refusal.TheVariants.{TableLength}
-use Rattle.terms.specs.declared.Admission.{Admission}
-use Rattle.terms.specs.declared.Admission.TheVariants.{Granted, Refused}
+use Rattle.std.specs.Prelude.{Err}
 use Rattle.terms.specs.Terms.{accepted, Figures, answered, refused, refused_with}
-use Rattle.terms.specs.Guards.{◌else◌, admitted, guarded, then_guard, area_guards}
+use Rattle.terms.specs.Guards.{Admission, granted, admitted, guarded, first}
 use Rattle.terms.proofs.Limits.{limits, area_passed, both_accepted}
-use Rattle.terms.proofs.Guards.{◌and◌, passed, answered_so, refused_first, next, untried}
+use Rattle.terms.proofs.Guards.{◌and◌, passed, answered_so, refused_first, untried}
 use Rattle.terms.proofs.Refusals.{refusal_some}
 use Rattle.division.specs.Division.{Block, whole, curve, blocks_holding, count}
 use Rattle.division.proofs.Blocks.{at_most_54}
@@ -40,7 +38,7 @@ not_deep w h ok =
 
 -- what a call on a table is answered, refused by its guards or granted
 module _ (w h : ℕ) (t : List ℕ) (n : ℕ) (values : List ℕ) where
-  pub table_refused : (r : Refusal) → admitted (table_guards w h (length t)) ≡ Refused r → refused r n ≡ guarded (table_guards w h (length t)) n values
+  pub table_refused : (r : Refusal) → admitted (table_guards w h (length t)) ≡ Err r → refused r n ≡ guarded (table_guards w h (length t)) n values
   table_refused r e = refused_first 4 (table_guards w h (length t)) n values refl r e
 
   pub taken : accepted w h ≡ true → length t ≡ w * h → guarded (table_guards w h (length t)) n values ≡ answered values
@@ -49,17 +47,15 @@ module _ (w h : ℕ) (t : List ℕ) (n : ℕ) (values : List ℕ) where
       answered_so (table_guards w h (length t)) n values (tests.0 and tests.1 and eq-eqb (length t) (w * h) size and ap not (not_deep w h ok))
 
 -- a table that is granted: its area is accepted, and it has w·h places
-pub table_granted : (w h places : ℕ) → admitted (table_guards w h places) ≡ Granted → (accepted w h ≡ true) × (places ≡ w * h)
+pub table_granted : (w h places : ℕ) → admitted (table_guards w h places) ≡ granted → (accepted w h ≡ true) × (places ≡ w * h)
 table_granted w h places e =
     let tests = passed (table_guards w h places) e in
     (both_accepted w h tests.0 tests.1.0, eqb-true places (w * h) tests.1.1.0)
 
 -- the guards as the code tries them: 9 holds where the others pass
-pub tried : (w h places : ℕ) {told : Bool} {j k : Admission} → j ≡ admitted (area_guards w h) → k ≡ then_guard j (told else TableLength)
-    → told ≡ eqb places (w * h) → k ≡ admitted (table_guards w h places)
-tried w h places in_limits step is =
-    untried (table_guards w h places) 3 (lit< tt) (next (table_guards w h places) 2 (lit< tt) in_limits step (λ p. is))
-    (λ p. ap not (not_deep w h (both_accepted w h p.0 p.1.0)))
+pub refused_so : (w h places : ℕ) {k : Admission} → k ≡ admitted (first 3 (table_guards w h places)) → k ≡ admitted (table_guards w h places)
+refused_so w h places is =
+    untried (table_guards w h places) 3 (lit< tt) is (λ p. ap not (not_deep w h (both_accepted w h p.0 p.1.0)))
 
 -- what is left of something lent: what is due where the call is answered, else what was there
 module _ (f : Figures) (due before : List ℕ) where
@@ -78,5 +74,7 @@ pub given : (values : List ℕ) {f : Figures} (due before : List ℕ) → f ≡ 
 given values {f} due before e = sym (answered_left f due before (ap (λ (g : Figures). g.refusal) e))
 
 -- the whole area is then a block that a walk can take
-pub block_fits : (kind : Bool) (w h size : ℕ) → accepted w h ≡ true → size ≡ w * h → (k : Block) → k ≡ whole w h → Walks.Fits kind w h size k 0
-block_fits kind w h size ok same = let all = limits w h ok in whole_fits kind w h size all.w_least all.w_most all.h_least all.h_most (omega arith)
+pub block_fits : (kind : Bool) (w h size : ℕ) → accepted w h ≡ true → size ≡ w * h → (k : Block) → k ≡ whole w h → {at : ℕ} → at ≡ 0
+    → Walks.Fits kind w h size k at
+block_fits kind w h size ok same k is begins =
+    let all = limits w h ok in whole_fits kind w h size all.w_least all.w_most all.h_least all.h_most (omega arith) k is begins

@@ -20,8 +20,9 @@ use Rattle.terms.proofs.Guards.{all_pass, answered_exactly}
 use Rattle.terms.proofs.OneAnswer.{one_equation, by_figures}
 use Rattle.division.specs.Division.{square, whole, square_of, number_of, blocks, +x, +y}
 use Rattle.division.proofs.Blocks.{whole_inside, few_blocks}
-use Rattle.tables.specs.declared.FillAnswer as FillAnswers
-use Rattle.tables.specs.declared.CheckAnswer as CheckAnswers
+use Rattle.std.specs.Prelude.{Option, Some, None, Result, Ok, Err}
+use Rattle.terms.specs.declared.Refusal.{Refusal}
+use Rattle.leaves.specs.declared.Wrong.{Wrong}
 use Rattle.tables.specs.Tables.{by_number, by_square, due_by, judged, table_guards, unless_refused, fill, check, fill_figures, check_figures}
 use Rattle.tables.specs.Tables.{fill_at, filled_at, check_at}
 use Rattle.tables.proofs.Admitted.{table_granted, taken, given, answered_left, refused_left}
@@ -198,10 +199,10 @@ module _ (w h : ℕ) (kind : Bool) (t : List ℕ) where
 
 -- The fields of an answer are what their names say: of a fill all blocks of the division, of a check the first wrong place and the value due there.
 module _ (area : Area) (t : List ℕ) where
-  pub filled_fields : (n : ℕ) → fill_figures (FillAnswers.TheVariants.Filled n) ≡ fill_at area t → n ≡ length (blocks (whole area.w area.h))
+  pub filled_fields : (n : ℕ) → fill_figures (Ok n) ≡ fill_at area t → n ≡ length (blocks (whole area.w area.h))
   filled_fields n e = all_blocks_reported area.w area.h t n (sym e)
 
-  pub right_fields : (kind : Bool) → check_figures CheckAnswers.TheVariants.Right ≡ check_at area (due_by kind) t → t ≡ due_by kind area.w area.h
+  pub right_fields : (kind : Bool) → check_figures (Ok None) ≡ check_at area (due_by kind) t → t ≡ due_by kind area.w area.h
   unfolding check
   right_fields kind e =
       let w = area.w in
@@ -209,35 +210,34 @@ module _ (area : Area) (t : List ℕ) where
       let was = asked_so w h t 3 (judged 0 (due_by kind w h) t) (ap (λ f. f.refusal) (sym e)) in
       right_then_filled w h was.0 kind t was.1 (sym e)
 
-  pub wrong_fields : (kind : Bool) (place due : ℕ) → check_figures (CheckAnswers.TheVariants.Wrong place due) ≡ check_at area (due_by kind) t
+  pub wrong_fields : (kind : Bool) (place due : ℕ) → check_figures (Ok (Some (record { place = place; due = due }))) ≡ check_at area (due_by kind) t
       → First (due_by kind area.w area.h) t place due
   wrong_fields kind place due e = first_wrong_place area.w area.h kind t place due (sym e)
 
 -- Two answers that meet a promise are one, and so are the tables that two fills leave.
-fill_from : Figures → FillAnswers.FillAnswer
-fill_from f = cond (eqb f.refusal 0) (FillAnswers.TheVariants.Filled (figure 0 f)) (FillAnswers.TheVariants.Refused (named f.refusal))
+fill_from : Figures → Result ℕ Refusal
+fill_from f = cond (eqb f.refusal 0) (Ok (figure 0 f)) (Err (named f.refusal))
 
-fill_told : (r : FillAnswers.FillAnswer) → fill_from (fill_figures r) ≡ r
+fill_told : (r : Result ℕ Refusal) → fill_from (fill_figures r) ≡ r
 unfolding fill_from
-fill_told (FillAnswers.TheVariants.Filled n) = refl
-fill_told (FillAnswers.TheVariants.Refused r) = rw (refusal_not_0 r) (ap FillAnswers.TheVariants.Refused (named_back r))
+fill_told (Ok n) = refl
+fill_told (Err r) = rw (refusal_not_0 r) (ap Err (named_back r))
 
-pub fill_one : (r s : FillAnswers.FillAnswer) {f : Figures} {t u due : List ℕ} → (fill_figures r ≡ f) × (t ≡ due) → (fill_figures s ≡ f) × (u ≡ due)
+pub fill_one : (r s : Result ℕ Refusal) {f : Figures} {t u due : List ℕ} → (fill_figures r ≡ f) × (t ≡ due) → (fill_figures s ≡ f) × (u ≡ due)
     → (r ≡ s) × (t ≡ u)
 fill_one r s p q = (by_figures fill_figures fill_from fill_told r s p.0 q.0, one_equation p.1 q.1)
 
-check_from : Figures → CheckAnswers.CheckAnswer
+check_from : Figures → Result (Option Wrong) Refusal
 check_from f =
-    cond (eqb f.refusal 0) (cond (eqb (figure 0 f) 0) CheckAnswers.TheVariants.Right (CheckAnswers.TheVariants.Wrong (figure 1 f) (figure 2 f)))
-    (CheckAnswers.TheVariants.Refused (named f.refusal))
+    cond (eqb f.refusal 0) (Ok (cond (eqb (figure 0 f) 0) None (Some (record { place = figure 1 f; due = figure 2 f })))) (Err (named f.refusal))
 
-check_told : (r : CheckAnswers.CheckAnswer) → check_from (check_figures r) ≡ r
+check_told : (r : Result (Option Wrong) Refusal) → check_from (check_figures r) ≡ r
 unfolding check_from
-check_told CheckAnswers.TheVariants.Right = refl
-check_told (CheckAnswers.TheVariants.Wrong place due) = refl
-check_told (CheckAnswers.TheVariants.Refused r) = rw (refusal_not_0 r) (ap CheckAnswers.TheVariants.Refused (named_back r))
+check_told (Ok None) = refl
+check_told (Ok (Some wrong)) = refl
+check_told (Err r) = rw (refusal_not_0 r) (ap Err (named_back r))
 
-pub check_one : (r s : CheckAnswers.CheckAnswer) {f : Figures} → check_figures r ≡ f → check_figures s ≡ f → r ≡ s
+pub check_one : (r s : Result (Option Wrong) Refusal) {f : Figures} → check_figures r ≡ f → check_figures s ≡ f → r ≡ s
 check_one = by_figures check_figures check_from check_told
 
 -- The wrong programs that the promises turn away. No table of one square of either kind holds 7.
@@ -283,14 +283,14 @@ four_reported =
     ∙ ap (λ n. answered (n ∷ [])) (sym (blocks_two (square 0 0) +x +y))
 
 pub made_up_count :
-    (n : ℕ) → ((w h : ℕ) (t : List ℕ) → accepted w h ≡ true → length t ≡ w * h → fill_figures (FillAnswers.TheVariants.Filled n) ≡ fill w h t) → ⊥
+    (n : ℕ) → ((w h : ℕ) (t : List ℕ) → accepted w h ≡ true → length t ≡ w * h → fill_figures (Ok n) ≡ fill w h t) → ⊥
 made_up_count n promise =
     let most = few_reported 1 1 (0 ∷ []) n (sym (promise 1 1 (0 ∷ []) one_square refl)) in
     omega (arith, ap (figure 0) (promise 2 2 (0 ∷ 0 ∷ 0 ∷ 0 ∷ []) four_squares refl ∙ four_reported))
 
 -- and one that reports the bound itself: 7 against 4
 pub bound_reported :
-    ((w h : ℕ) (t : List ℕ) → accepted w h ≡ true → length t ≡ w * h → fill_figures (FillAnswers.TheVariants.Filled (2 * (w * h) - 1)) ≡ fill w h t) → ⊥
+    ((w h : ℕ) (t : List ℕ) → accepted w h ≡ true → length t ≡ w * h → fill_figures (Ok (2 * (w * h) - 1)) ≡ fill w h t) → ⊥
 bound_reported promise = omega (arith, ap (figure 0) (promise 2 2 (0 ∷ 0 ∷ 0 ∷ 0 ∷ []) four_squares refl ∙ four_reported))
 
 -- "table contents and numbers are unaffected": two areas of the same lengths, whatever their origins are, are filled and checked alike.

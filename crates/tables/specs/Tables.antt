@@ -1,13 +1,13 @@
 -- What a fill and a check of a table say, for every area and every table: document 01, "What a lookup and a table say" and "Refusal numbers"; and by document
 -- 02, order 6, an origin makes no difference to them.
-use Rattle.std.specs.Prelude.{Bool, not, cond, List, [], ◌∷◌, ◌++◌, ℕ, zero, suc, ◌+◌, ◌*◌, ◌/◌, ◌%◌, ltb, eqb, length}
+use Rattle.std.specs.Prelude.{Bool, not, cond, Option, Some, None, Result, Ok, Err, List, [], ◌∷◌, ◌++◌, ℕ, zero, suc, ◌+◌, ◌*◌, ◌/◌, ◌%◌, ltb, eqb, length}
 use Rattle.terms.specs.declared.Area.{Area}
+use Rattle.terms.specs.declared.Refusal.{Refusal}
 use Rattle.terms.specs.declared.Refusal.TheVariants.{AreaLimit, TableLength, TooDeep, TooManySquares}
 use Rattle.terms.specs.Terms.{lengths_accepted, squares_accepted, most_blocks, Figures, answered, refused}
 use Rattle.terms.specs.Guards.{Guard, ◌else◌, guarded}
 use Rattle.division.specs.Division.{square, whole, curve, blocks, square_of, number_of, blocks_holding, count}
-use Rattle.tables.specs.declared.FillAnswer as FillAnswers
-use Rattle.tables.specs.declared.CheckAnswer as CheckAnswers
+use Rattle.leaves.specs.declared.Wrong.{Wrong}
 
 -- The table of n places that holds f p at each place p.
 unfoldable pub places : (ℕ → ℕ) → (n : ℕ) → List ℕ
@@ -44,9 +44,9 @@ unfoldable pub fill : (w h : ℕ) → List ℕ → Figures
 fill w h table = guarded (table_guards w h (length table)) 1 (length (blocks (whole w h)) ∷ [])
 
 -- The figures of a fill's answer.
-abbrev pub fill_figures : FillAnswers.FillAnswer → Figures
-fill_figures (FillAnswers.TheVariants.Filled blocks) = answered (blocks ∷ [])
-fill_figures (FillAnswers.TheVariants.Refused r) = refused r 1
+abbrev pub fill_figures : Result ℕ Refusal → Figures
+fill_figures (Ok blocks) = answered (blocks ∷ [])
+fill_figures (Err r) = refused r 1
 
 -- "check a table of either kind: right, or the first wrong place and the value due there", as three values: 0 or 1, the place, the value due.
 unfoldable pub judged : (place : ℕ) (due table : List ℕ) → List ℕ
@@ -72,7 +72,7 @@ abbrev pub check_at : Area → (due : (w h : ℕ) → List ℕ) → List ℕ →
 check_at area due table = check area.w area.h (due area.w area.h) table
 
 -- The figures of a check's answer.
-abbrev pub check_figures : CheckAnswers.CheckAnswer → Figures
-check_figures CheckAnswers.TheVariants.Right = answered (0 ∷ 0 ∷ 0 ∷ [])
-check_figures (CheckAnswers.TheVariants.Wrong place due) = answered (1 ∷ place ∷ due ∷ [])
-check_figures (CheckAnswers.TheVariants.Refused r) = refused r 3
+abbrev pub check_figures : Result (Option Wrong) Refusal → Figures
+check_figures (Ok None) = answered (0 ∷ 0 ∷ 0 ∷ [])
+check_figures (Ok (Some wrong)) = answered (1 ∷ wrong.place ∷ wrong.due ∷ [])
+check_figures (Err r) = refused r 3

@@ -4,10 +4,10 @@ use Prim.Native.Nat.{◌+◌, ◌*◌}
 use Rattle.stretches.proofs.+stretch.Given as goal
 
 abbrev pub decreases-stretch_block : goal.decreases-stretch_block
-decreases-stretch_block l = 3 * (l.k.a * l.k.b) + 2
+decreases-stretch_block l = 3 * (l.k.placed.a * l.k.placed.b) + 2
 
 abbrev pub decreases-stretch_long_cut : goal.decreases-stretch_long_cut
-decreases-stretch_long_cut l = 3 * (l.k.a * l.k.b)
+decreases-stretch_long_cut l = 3 * (l.k.placed.a * l.k.placed.b)
 
 abbrev pub decreases-stretch_u_cut : goal.decreases-stretch_u_cut
-decreases-stretch_u_cut l = 3 * (l.k.a * l.k.b)
+decreases-stretch_u_cut l = 3 * (l.k.placed.a * l.k.placed.b)

@@ -9,4 +9,5 @@ use Rattle.stretches.proofs.Clipped.{put_first}
 use Rattle.stretches.proofs.put_straight.Given as goal
 
 abbrev pub invariant-loop-i : goal.invariant-loop-i
-invariant-loop-i l = (l.skip ≤ l.i) × (l.i ≤ l.k.a) × (l.out ≡ put_first l.first l.initial.out l.at (map (place l.w) (curve (block l.k))) l.i)
+invariant-loop-i l =
+    (l.skip ≤ l.i) × (l.i ≤ l.k.placed.a) × (l.out ≡ put_first l.first l.initial.out l.k.first (map (place l.w) (curve (block l.k.placed))) l.i)
