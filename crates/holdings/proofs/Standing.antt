@@ -1,14 +1,14 @@
 -- A block of the division stands in a file's table exactly if its squares are right one after the other: so it does if the file has its entries, or the images
 -- of a block that it repeats; and once a square is wrong, the walk stays so.
 use mathlib.Core.Bool.{Bool, true, false, not, cond}
-use mathlib.Core.List.{List, [], ◌∷◌, ◌++◌, map}
+use mathlib.Core.List.{List, [], ◌∷◌, map}
 use mathlib.Core.Path.{◌≡◌, refl, sym, ap, subst, subst⁻¹, ◌∙◌}
 use Prim.Native.Nat.{ℕ, zero, suc, ◌+◌, ◌*◌, ◌<◌}
 use native.Mathlib.Nat.{add-zero, suc-add, add-suc}
 use native.Mathlib.Omega.{arith}
 use borrow.Author.Tests.{eqb-true, eqb-false, not-true, not-false}
 use lib.Dec.{eqb}
-use lib.ListN.{length, get_or, get_or-append}
+use lib.ListN.{length, get_or}
 use Rattle.terms.specs.Telling.{Tells}
 use Rattle.terms.proofs.Telling.{refuses, grants, tells_so, tells_one}
 use Rattle.division.specs.Division.{Block, whole, curve}
@@ -70,6 +70,10 @@ table_at words n p l = place_holds (table_word words) n p l
 pub table_long : (words : List ℕ) (n : ℕ) → length (table_in words n) ≡ n
 table_long words n = places_length (table_word words) n
 
+-- the first n entries stand from a place on
+abbrev FirstOf : (words : List ℕ) (at : ℕ) (entries : List ℕ) (n : ℕ) → Type 0
+FirstOf words at entries n = (i : ℕ) → i < n → table_word words (at + i) ≡ get_or entries i 0
+
 -- a block of it
 module _ {w h : ℕ} (words : List ℕ) {k : Block} {at : ℕ} (lies : Lies w h k at) where
   abbrev t : List ℕ
@@ -88,16 +92,16 @@ module _ {w h : ℕ} (words : List ℕ) {k : Block} {at : ℕ} (lies : Lies w h 
   held_so r is e = block_tells.0 (sym is ∙ not-false r e)
 
   -- by its entries
-  pub entered_right : {r : Bool} → Tells r (Entered words at (map (place w) (curve k)) (k.a * k.b)) → r ≡ block_right w t k at
+  pub entered_right : {r : Bool} → Tells r (FirstOf words at (map (place w) (curve k)) (k.a * k.b)) → r ≡ block_right w t k at
   entered_right tells = tells_one (tells_so tells to from) block_tells
     where
-      to : Entered words at (map (place w) (curve k)) (k.a * k.b) → Held w t k at
+      to : FirstOf words at (map (place w) (curve k)) (k.a * k.b) → Held w t k at
       to entered =
           let all = table_long words (w * h) in
           let room = lies.room in
           places_held w t k at lies.inside.sized (omega arith) (λ i l. table_at words (w * h) (at + i) (omega arith) ∙ entered i l)
 
-      from : Held w t k at → Entered words at (map (place w) (curve k)) (k.a * k.b)
+      from : Held w t k at → FirstOf words at (map (place w) (curve k)) (k.a * k.b)
       from held i l = let room = lies.room in sym (table_at words (w * h) (at + i) (omega arith)) ∙ held_places w t k at held i l
 
 -- by a block that it repeats
@@ -127,33 +131,31 @@ module _ {w h : ℕ} (words : List ℕ) {j : Block} {from : ℕ} {k : Block} {to
       tells_one (tells_so tells (λ repeated. agree_held again c starts (agree_so repeated)) (λ held. so_agree (held_agree again c starts held)))
       (block_tells words lies)
 
--- the entries that a fill leaves in front of a buffer
-module _ {w h : ℕ} (buffer rest : List ℕ) {k : Block} (fits : Fits false w h (length buffer) k 0) {es : List ℕ} (is : es ≡ filled_with false w buffer k 0) where
-  filled_long : length es ≡ length buffer
-  filled_long = ap length is ∙ enter_length false buffer 0 (map (place w) (curve k))
+-- the entries that a fill leaves in a buffer of the block's squares
+module _ {w h : ℕ} (buffer : List ℕ) {k : Block} (fits : Fits false w h (length buffer) k 0) {es : List ℕ} (is : es ≡ filled_with false w buffer k 0)
+    (size : length buffer ≡ k.a * k.b) where
+  filled_long : length es ≡ k.a * k.b
+  filled_long = ap length is ∙ enter_length false buffer 0 (map (place w) (curve k)) ∙ size
 
-  filled_entry : (i : ℕ) → i < k.a * k.b → get_or (es ++ rest) i 0 ≡ get_or (map (place w) (curve k)) i 0
+  filled_entry : (i : ℕ) → i < k.a * k.b → get_or es i 0 ≡ get_or (map (place w) (curve k)) i 0
   filled_entry i l =
-      let long = filled_long in
-      let room = fits.room in
-      get_or-append es rest 0 i (omega arith)
-      ∙ ap (λ (zs : List ℕ). get_or zs i 0) is
+      ap (λ (zs : List ℕ). get_or zs i 0) is
       ∙ ap (λ (n : ℕ). get_or (filled_with false w buffer k 0) n 0) (let z : i ≡ 0 + i = omega arith in z)
       ∙ held_places w (filled_with false w buffer k 0) k 0 (over_held buffer fits) i l
 
-  pub filled_tells : (words : List ℕ) (at : ℕ) {r : Bool} → Tells r (Entered words at (es ++ rest) (k.a * k.b))
-      → Tells r (Entered words at (map (place w) (curve k)) (k.a * k.b))
+  pub filled_tells : (words : List ℕ) (at : ℕ) {r : Bool} → Tells r (Entered words at es) → Tells r (FirstOf words at (map (place w) (curve k)) (k.a * k.b))
   filled_tells words at tells =
-      tells_so tells (λ entered i l. entered i l ∙ filled_entry i l) (λ entered i l. entered i l ∙ sym (filled_entry i l))
+      let long = filled_long in
+      tells_so tells (λ entered i l. entered i (omega arith) ∙ filled_entry i l) (λ entered i l. entered i (omega arith) ∙ sym (filled_entry i (omega arith)))
 
 -- the whole area
 whole_squares : (w h : ℕ) {k : Block} → k ≡ whole w h → k.a * k.b ≡ w * h
 unfolding whole
 whole_squares w h is = ap (λ (b : Block). b.a * b.b) is
 
-pub whole_tells : (w h : ℕ) (words : List ℕ) {k : Block} → Lies w h k 0 → k ≡ whole w h → {r : Bool}
+whole_from_0 : (w h : ℕ) (words : List ℕ) {k : Block} → Lies w h k 0 → k ≡ whole w h → {r : Bool}
     → r ≡ block_right w (table_in words (w * h)) k 0 → Tells r (AllRight words w h)
-whole_tells w h words {k} lies is_k is = subst⁻¹ (λ (b : Bool). Tells b (AllRight words w h)) is (tells_so (block_tells words lies) to from)
+whole_from_0 w h words {k} lies is_k is = subst⁻¹ (λ (b : Bool). Tells b (AllRight words w h)) is (tells_so (block_tells words lies) to from)
   where
     to : Held w (table_in words (w * h)) k 0 → AllRight words w h
     to held i l =
@@ -172,3 +174,8 @@ whole_tells w h words {k} lies is_k is = subst⁻¹ (λ (b : Bool). Tells b (All
         ∙ table_at words (w * h) i (omega arith)
         ∙ right i (omega arith)
         ∙ ap (λ (b : Block). get_or (map (place w) (curve b)) i 0) (sym is_k))
+
+pub whole_tells : (w h : ℕ) (words : List ℕ) {k : Block} {at : ℕ} → Lies w h k at → k ≡ whole w h → at ≡ 0 → {r : Bool}
+    → r ≡ block_right w (table_in words (w * h)) k at → Tells r (AllRight words w h)
+whole_tells w h words {k} lies is_k begins is =
+    whole_from_0 w h words (subst (Lies w h k) begins lies) is_k (is ∙ ap (λ n. block_right w (table_in words (w * h)) k n) begins)

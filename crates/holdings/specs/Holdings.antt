@@ -21,9 +21,9 @@ table_in words n = places (table_word words) n
 abbrev pub Reaches : (file : List ℕ) (n : ℕ) → Type 0
 Reaches file n = (p : ℕ) → p < n → 4 * word_for p + 4 ≤ length file
 
--- The words of n places from `at` on are the first of some entries; those from `to` on are the images of those from `from` on.
-abbrev pub Entered : (words : List ℕ) (at : ℕ) (entries : List ℕ) (n : ℕ) → Type 0
-Entered words at entries n = (i : ℕ) → i < n → table_word words (at + i) ≡ get_or entries i 0
+-- The words of places from `at` on are some entries; those of n places from `to` on are the images of those from `from` on.
+abbrev pub Entered : (words : List ℕ) (at : ℕ) (entries : List ℕ) → Type 0
+Entered words at entries = (i : ℕ) → i < length entries → table_word words (at + i) ≡ get_or entries i 0
 
 abbrev pub Repeated : (opposite : Bool) (c : ℕ) (words : List ℕ) (from to n : ℕ) → Type 0
 Repeated opposite c words from to n = (i : ℕ) → i < n → table_word words (to + i) ≡ image opposite c (table_word words (from + i))

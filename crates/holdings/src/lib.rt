@@ -3,7 +3,7 @@
 // have 126 places of the table each, and are called so.
 #![tactic(auto)]
 
-ghost use Rattle.std.specs.Prelude.{true, false, ◌≡◌, ◌+◌, ◌-◌, ◌*◌, ◌%◌, ◌≤◌, ◌<◌, min, length};
+ghost use Rattle.std.specs.Prelude.{◌≡◌, ◌+◌, ◌*◌, ◌≤◌, ◌<◌, length};
 ghost use Rattle.terms.specs.Terms.{Limits, past_32_bits};
 ghost use Rattle.terms.specs.Telling.{Tells};
 ghost use Rattle.division.specs.declared.Choice.TheVariants.{StraightRun, LongCut, UCut};
@@ -14,7 +14,9 @@ ghost use Rattle.stretches.specs.Stretch.{Lies};
 ghost use Rattle.sectors.specs.Sectors.{words_of};
 ghost use Rattle.holdings.specs.Holdings.{word_for, table_in, Reaches, Entered, Repeated, right_one, block_right, AllRight};
 
-use division::{Choice, Placed};
+use copies::Image;
+use division::Choice;
+use leaves::{ByNumber, Numbered};
 use terms::Area;
 
 // How many entries are computed at a time: what two blocks of the file hold, 1,008 bytes of stack.
@@ -27,85 +29,63 @@ pub fn word_for(p: u32) -> usize
     128 * (1 + p as usize / 126) + p as usize % 126
 }
 
-// How many of n places from p on have their words in the first one's block of the file.
-fn in_one_block(p: u32, n: u32) -> u32
-    ensures { result ≡ min n (126 - p % 126) }
+// Whether the file has these entries from place `at` on, as far at a time as they lie in one block of the file: the pieces differ in length, so that no
+// chunks are they.
+fn entries_held(file: &[u8], at: u32, entries: &[u32]) -> bool
+    requires { Reaches file.now (at + length entries.now) × (at + length entries.now < past_32_bits) }
+    ensures { Tells result (Entered (words_of file.now) at entries.now) }
 {
-    let left = 126 - p % 126;
-    if n < left { n } else { left }
-}
-
-// Whether the file has n entries from place `at` on, as far at a time as they lie in one block of the file.
-fn entries_held(file: &[u8], at: u32, entries: &[u32], n: u32) -> bool
-    requires { Reaches file.now (at + n) × (at + n < past_32_bits) × (n ≤ length entries.now) }
-    ensures { Tells result (Entered (words_of file.now) at entries.now n) }
-{
-    let mut done: u32 = 0;
-    while done < n {
-        let m = in_one_block(at + done, n - done);
-        if !sectors::has_words(file, word_for(at + done), entries, done as usize, m) {
+    let mut done: usize = 0;
+    while done < entries.len() {
+        let p = at + done as u32;
+        let m = (entries.len() - done).min(126 - p as usize % 126);
+        let words = &entries[done..done + m];
+        if !sectors::has_words(&file[4 * word_for(p)..], words) {
             return false;
         }
-        done = done + m;
+        done += m;
     }
     true
 }
 
-// Whether n words from `to` on are the images of those from `from` on. Those that are get counted: a loop that could end early would take them one by one.
-fn words_agree(file: &[u8], from: usize, to: usize, n: u32, c: u32, opposite: bool) -> bool
+// Whether n words from `to` on are the images of those from `from` on. Those that are get counted: a test of all could end early, and takes them one by one.
+fn words_agree(file: &[u8], from: usize, to: usize, n: usize, by: Image) -> bool
     requires { (from ≤ to) × (4 * (to + n) ≤ length file.now) }
-    ensures { Tells result (Agree «opposite» c (words_of file.now) from to n) }
+    ensures { Tells result (Agree by.«opposite» by.c (words_of file.now) from to n) }
 {
-    let mut same: u32 = 0;
-    for i in 0..n as usize {
-        let image = copies::image_of(sectors::word_at(file, from + i), c, opposite);
-        let right = sectors::word_at(file, to + i) == image;
-        same = same + division::either(right, 1, 0);
-    }
+    let same = (0..n)
+        .filter(|i| { sectors::word_at(file, to + *i) == by.of(sectors::word_at(file, from + *i)) })
+        .count();
     same == n
 }
 
-// Whether the words of n places from `to` on are the images of those from `from` on, as far at a time as both lie in one block of
-// the file.
-fn images_held(file: &[u8], from: u32, to: u32, n: u32, c: u32, opposite: bool) -> bool
+// Whether the words of n places from `to` on are the images of those from `from` on, as far at a time as both lie in one block of the file: these pieces
+// too differ in length.
+fn images_held(file: &[u8], from: u32, to: u32, n: u32, by: Image) -> bool
     requires { (from ≤ to) × Reaches file.now (to + n) × (to + n < past_32_bits) }
-    ensures { Tells result (Repeated «opposite» c (words_of file.now) from to n) }
+    ensures { Tells result (Repeated by.«opposite» by.c (words_of file.now) from to n) }
 {
     let mut done: u32 = 0;
     while done < n {
-        let m = in_one_block(from + done, in_one_block(to + done, n - done));
-        if !words_agree(
-            file,
-            word_for(from + done),
-            word_for(to + done),
-            m,
-            c,
-            opposite,
-        ) {
+        let p = from + done;
+        let q = to + done;
+        let m = (n - done).min(126 - p % 126).min(126 - q % 126);
+        if !words_agree(file, word_for(p), word_for(q), m as usize, by) {
             return false;
         }
-        done = done + m;
+        done += m;
     }
     true
 }
 
-// Whether block k stands from number `to` on, by comparing it with block j, which it repeats, from `from` on.
-fn repeat_held(
-    file: &[u8],
-    j: Placed,
-    from: u32,
-    k: Placed,
-    to: u32,
-    area: Area,
-    opposite: bool,
-) -> bool
+// Whether block k stands, by comparing it with block j, which it repeats.
+fn repeat_held(file: &[u8], j: Numbered, k: Numbered, area: Area, opposite: bool) -> bool
     requires { Reaches file.now (area.w * area.h)
-        × Again area.w area.h (table_in (words_of file.now) (area.w * area.h)) (block j) from (block k) to «opposite» }
-    ensures { result ≡ block_right area.w (table_in (words_of file.now) (area.w * area.h)) (block k) to }
+        × Again area.w area.h (table_in (words_of file.now) (area.w * area.h)) (block j.placed) j.first (block k.placed) k.first «opposite» }
+    ensures { result ≡ block_right area.w (table_in (words_of file.now) (area.w * area.h)) (block k.placed) k.first }
 {
-    let c = copies::between(j, k, area, opposite);
-    let n = k.a * k.b;
-    images_held(file, from, to, n, c, opposite)
+    let by = Image::between(j.placed, k.placed, area, opposite);
+    images_held(file, j.first, k.first, k.placed.a * k.placed.b, by)
 }
 
 // Whether all was right so far, and square number n is too: its entry is p.
@@ -120,92 +100,93 @@ fn right_one(file: &[u8], n: u32, p: u32, area: Area, so_far: bool) -> bool
 }
 
 // A straight block, square by square along its run. Few have no room in the buffer: those of long strips, as of an area 1 to 3 wide.
-fn straight_held(file: &[u8], k: Placed, area: Area, at: u32) -> bool
+fn straight_held(file: &[u8], k: Numbered, area: Area) -> bool
     requires { Reaches file.now (area.w * area.h)
-        × (Lies area.w area.h (block k) at × (choice k.a k.b ≡ StraightRun)) }
-    ensures { result ≡ block_right area.w (table_in (words_of file.now) (area.w * area.h)) (block k) at }
+        × (Lies area.w area.h (block k.placed) k.first × (choice k.placed.a k.placed.b ≡ StraightRun)) }
+    ensures { result ≡ block_right area.w (table_in (words_of file.now) (area.w * area.h)) (block k.placed) k.first }
 {
     let w = area.w;
     let mut right = true;
-    for i in 0..k.a {
-        let p = leaves::place_of(division::stepped(k.along, i, k.back), k.across, k.turned, w);
-        right = right_one(file, at + i, p, area, right);
+    for i in 0..k.placed.a {
+        let p = leaves::place_of(
+            division::stepped(k.placed.along, i, k.placed.back),
+            k.placed.across,
+            k.placed.turned,
+            w,
+        );
+        right = right_one(file, k.first + i, p, area, right);
     }
     right
 }
 
 // A block that has room in the buffer, filled there and compared.
-fn filled_held(file: &[u8], k: Placed, area: Area, at: u32, buffer: &mut [u32]) -> bool
-    requires { Reaches file.now (area.w * area.h) × Lies area.w area.h (block k) at
-        × (k.a * k.b ≤ length buffer.old) }
-    ensures { result ≡ block_right area.w (table_in (words_of file.now) (area.w * area.h)) (block k) at }
+fn filled_held(file: &[u8], k: Numbered, area: Area, buffer: &mut [u32]) -> bool
+    requires { Reaches file.now (area.w * area.h) × Lies area.w area.h (block k.placed) k.first
+        × (k.placed.a * k.placed.b ≤ length buffer.old) }
+    ensures { result ≡ block_right area.w (table_in (words_of file.now) (area.w * area.h)) (block k.placed) k.first }
 {
-    let n = k.a * k.b;
-    let e = n as usize;
-    fills::fill_block(&mut buffer[..e], k, area, 0, false);
-    entries_held(file, at, buffer, n)
+    let entries = &mut buffer[..(k.placed.a * k.placed.b) as usize];
+    let in_buffer = Numbered {
+        placed: k.placed,
+        first: 0,
+    };
+    fills::fill_block::<ByNumber>(entries, in_buffer, area);
+    entries_held(file, k.first, entries)
 }
 
-// Whether a block stands in the file's table from number `at` on. It and the two cuts call each other; the block's area falls.
+// Whether a block stands in the file's table from its number on. It and the two cuts call each other; the block's area falls.
 #[cycle(held)]
-fn block_held(file: &[u8], k: Placed, area: Area, at: u32, buffer: &mut [u32]) -> bool
-    requires { Reaches file.now (area.w * area.h) × Lies area.w area.h (block k) at }
-    ensures { result ≡ block_right area.w (table_in (words_of file.now) (area.w * area.h)) (block k) at }
+fn block_held(file: &[u8], k: Numbered, area: Area, buffer: &mut [u32]) -> bool
+    requires { Reaches file.now (area.w * area.h) × Lies area.w area.h (block k.placed) k.first }
+    ensures { result ≡ block_right area.w (table_in (words_of file.now) (area.w * area.h)) (block k.placed) k.first }
 {
-    let n = k.a * k.b;
+    let n = k.placed.a * k.placed.b;
     if n as usize <= buffer.len() {
-        return filled_held(file, k, area, at, buffer);
+        return filled_held(file, k, area, buffer);
     }
-    let case = division::choose(k.a, k.b);
-    match case {
-        Choice::StraightRun => straight_held(file, k, area, at),
-        Choice::StraightSide => straight_held(file, leaves::exchanged_block(k), area, at),
-        Choice::LongCut => long_cut_held(file, k, area, at, buffer),
-        Choice::UCut => u_cut_held(file, k, area, at, buffer),
+    match division::choose(k.placed.a, k.placed.b) {
+        Choice::StraightRun => straight_held(file, k, area),
+        Choice::StraightSide => straight_held(file, k.exchanged(), area),
+        Choice::LongCut => long_cut_held(file, k, area, buffer),
+        Choice::UCut => u_cut_held(file, k, area, buffer),
     }
 }
 
 // The two parts of a long cut. The second repeats the first where it is as long.
 #[cycle(held)]
-fn long_cut_held(file: &[u8], k: Placed, area: Area, at: u32, buffer: &mut [u32]) -> bool
-    requires { Reaches file.now (area.w * area.h) × (Lies area.w area.h (block k) at × (choice k.a k.b ≡ LongCut)) }
-    ensures { result ≡ block_right area.w (table_in (words_of file.now) (area.w * area.h)) (block k) at }
+fn long_cut_held(file: &[u8], k: Numbered, area: Area, buffer: &mut [u32]) -> bool
+    requires { Reaches file.now (area.w * area.h) × (Lies area.w area.h (block k.placed) k.first × (choice k.placed.a k.placed.b ≡ LongCut)) }
+    ensures { result ≡ block_right area.w (table_in (words_of file.now) (area.w * area.h)) (block k.placed) k.first }
 {
-    let e = division::even_half(k.a);
-    let to_second = at + e * k.b;
-    let near = division::long_part(k, false);
-    let far = division::long_part(k, true);
-    if !block_held(file, near, area, at, buffer) {
+    let near = k.long_part(false);
+    let far = k.long_part(true);
+    if !block_held(file, near, area, buffer) {
         return false;
     }
-    if e == k.a - e {
-        return repeat_held(file, near, at, far, to_second, area, false);
+    if near.placed.a == far.placed.a {
+        return repeat_held(file, near, far, area, false);
     }
-    block_held(file, far, area, to_second, buffer)
+    block_held(file, far, area, buffer)
 }
 
-// The three parts of a U cut, which have one place in memory: a walk's stack is as deep as its blocks. C repeats A, turned round, where the run is even.
+// The three parts of a U cut. C repeats A, turned round, where the run is even.
 #[cycle(held)]
-fn u_cut_held(file: &[u8], k: Placed, area: Area, at: u32, buffer: &mut [u32]) -> bool
-    requires { Reaches file.now (area.w * area.h) × (Lies area.w area.h (block k) at × (choice k.a k.b ≡ UCut)) }
-    ensures { result ≡ block_right area.w (table_in (words_of file.now) (area.w * area.h)) (block k) at }
+fn u_cut_held(file: &[u8], k: Numbered, area: Area, buffer: &mut [u32]) -> bool
+    requires { Reaches file.now (area.w * area.h) × (Lies area.w area.h (block k.placed) k.first × (choice k.placed.a k.placed.b ≡ UCut)) }
+    ensures { result ≡ block_right area.w (table_in (words_of file.now) (area.w * area.h)) (block k.placed) k.first }
 {
-    let e = division::even_half(k.b);
-    let to_b = at + e * (k.a / 2);
-    let to_c = to_b + k.a * (k.b - e);
-    let mut part = division::part_a(k);
-    if !block_held(file, part, area, at, buffer) {
+    let up = k.part_a();
+    if !block_held(file, up, area, buffer) {
         return false;
     }
-    part = division::part_b(k);
-    if !block_held(file, part, area, to_b, buffer) {
+    if !block_held(file, k.part_b(), area, buffer) {
         return false;
     }
-    part = division::part_c(k);
-    if k.a % 2 == 0 {
-        return repeat_held(file, division::part_a(k), at, part, to_c, area, true);
+    let down = k.part_c();
+    if k.placed.a % 2 == 0 {
+        return repeat_held(file, up, down, area, true);
     }
-    block_held(file, part, area, to_c, buffer)
+    block_held(file, down, area, buffer)
 }
 
 // Whether the file's table is the right one.
@@ -215,5 +196,5 @@ pub fn table_held(file: &[u8], area: Area) -> bool
 {
     // Not 0: an array of zeros is a call of `memset`, and the library calls nothing.
     let mut buffer: [u32; AT_A_TIME] = [1; AT_A_TIME];
-    block_held(file, leaves::whole_block(area), area, 0, &mut buffer)
+    block_held(file, Numbered::whole(area), area, &mut buffer)
 }

@@ -88,7 +88,6 @@ module _ (w h kind : ℕ) (table : List ℕ) where
       let room = card_words_length in
       let used = used_length b in
       block_has (slice table (126 * b) 126) (few_taken table (126 * b)) words (1 + b) (omega arith) (table_block b (omega arith)) j (omega arith)
-      ∙ ap (λ (k : ℕ). get_or (slice table (126 * b) 126) k 0) (let z : 0 + j ≡ j = omega arith in z)
       ∙ slice_at table (126 * b) 126 j (omega arith)
       ∙ ap (λ (k : ℕ). get_or table k 0) (let z : 126 * b + j ≡ p = omega arith in z)
 
@@ -116,7 +115,7 @@ module _ (w h kind : ℕ) (table words : List ℕ) (long : length words ≡ 128 
   head_is : slice words (128 * 0) 128 ≡ sealed (head w h kind)
   head_is = block_is (head w h kind) (omega arith) words 0 (omega arith) headed.0 headed.1 (goods 0 (omega arith))
 
-  block_holds : (b : ℕ) → b < n → Has words (128 * (1 + b)) (slice table (126 * b) 126) 0 (length (slice table (126 * b) 126))
+  block_holds : (b : ℕ) → b < n → Has words (128 * (1 + b)) (slice table (126 * b) 126)
   block_holds b l j m =
       let used = used_length w h kind table b in
       let p = 126 * b + j in
@@ -125,7 +124,6 @@ module _ (w h kind : ℕ) (table words : List ℕ) (long : length words ≡ 128 
       ap₂ (λ (k i : ℕ). get_or words (128 * k + i) 0) block rest
       ∙ holds p (omega arith)
       ∙ sym (slice_at table (126 * b) 126 j (omega arith))
-      ∙ ap (λ (k : ℕ). get_or (slice table (126 * b) 126) k 0) (let z : j ≡ 0 + j = omega arith in z)
 
   block_there : (b : ℕ) → b < n → slice words (128 * (1 + b)) 128 ≡ sealed (slice table (126 * b) 126)
   block_there b l =
@@ -182,11 +180,13 @@ module _ (w h : ℕ) (t : Limits w h) (kind : ℕ) (file : List ℕ) where
       refuses (λ is. said_no tells e (subst (λ (k : ℕ). Frames (words_of file) k (table_blocks k)) due_places
       (subst⁻¹ (λ (ws : List ℕ). Frames ws (length due) (table_blocks (length due))) (in_words is) (card_framed w h kind due))))
 
+  -- the table is judged by the kind that the number tells
   pub by_table : first_bad_in file ≡ whole_blocks file → length file ≡ card_bytes w h → Bytes file → Headed (words_of file) w h kind
-      → Frames (words_of file) (w * h) (table_blocks (w * h)) → {r : Bool} → Tells r (RightTold (eqb kind 2) (words_of file) w h (w * h))
-      → Tells r (file ≡ card w h kind)
+      → Frames (words_of file) (w * h) (table_blocks (w * h)) → {by : Bool} → eqb kind 2 ≡ by → {r : Bool}
+      → Tells r (RightTold by (words_of file) w h (w * h)) → Tells r (file ≡ card w h kind)
   unfolding card_of
-  by_table none long bytes headed frames tells = tells_so tells to from
+  by_table none long bytes headed frames chosen {r} tells =
+      tells_so (subst⁻¹ (λ (b : Bool). Tells r (RightTold b (words_of file) w h (w * h))) chosen tells) to from
     where
       whole : length file ≡ 512 * (1 + table_blocks (length due))
       whole = long ∙ ap (λ (k : ℕ). 512 * (1 + table_blocks k)) (sym due_places)

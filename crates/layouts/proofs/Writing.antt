@@ -2,34 +2,21 @@
 use mathlib.Core.Bool.{Bool, true, false}
 use mathlib.Core.List.{List, ◌++◌, append_assoc, append-nil}
 use mathlib.Core.Path.{◌≡◌, refl, sym, ap, ap₂, ◌∙◌}
-use Prim.Native.Nat.{ℕ, zero, suc, ◌+◌, ◌-◌, ◌*◌, ◌/◌, ◌%◌, ◌≤◌, ◌<◌}
+use Prim.Native.Nat.{ℕ, zero, suc, ◌+◌, ◌-◌, ◌*◌, ◌/◌, ◌%◌, ◌≤◌, ◌<◌, min}
 use native.Mathlib.Numerals.{add-one}
 use native.Mathlib.Omega.{arith}
-use borrow.Author.Tests.{leb-true, leb-false, ltb-true, ltb-false}
-use lib.Dec.{leb, ltb}
-use lib.ListN.{length, get_or, take, drop, length-drop, length-append, drop_of_length-le, get_or-append}
-use lib.Seq.{sets, sets-eq, take_all, drop-drop, get_or-take, get_or-append-add, length-take-le, ext_get_or}
+use borrow.Author.Tests.{ltb-true, ltb-false}
+use lib.Dec.{ltb}
+use lib.ListN.{length, get_or, take, drop, length-append, drop_of_length-le, get_or-append}
+use lib.Seq.{sets, sets-eq, drop-drop, get_or-take, get_or-append-add, length-take-le, ext_get_or}
 use Rattle.sectors.specs.Sectors.{words_of, bytes_of, sealed, packed}
 use Rattle.sectors.specs.Steps.{slice}
 use Rattle.sectors.proofs.Words.{Bytes, same_bytes}
-use Rattle.sectors.proofs.Entering.{sets_append, slice_length, slice_at}
+use Rattle.sectors.proofs.Entering.{sets_append, slice_at}
 use Rattle.sectors.proofs.Packing.{sealed_length, packed_length}
 use Rattle.tables.proofs.PlaceByPlace.{places_length, place_holds}
 use Rattle.layouts.specs.Layouts.{head, table_blocks, card_of}
-use Rattle.layouts.specs.Steps.{table_word, in_use, table_in}
-
--- a block's words are those in use
-pub used_all : (vs : List ℕ) (n b : ℕ) → length vs ≡ n → slice vs (126 * b) (in_use n b) ≡ slice vs (126 * b) 126
-used_all vs n b long = by (leb (n - 126 * b) 126) refl
-  where
-    by : (t : Bool) → leb (n - 126 * b) 126 ≡ t → slice vs (126 * b) (in_use n b) ≡ slice vs (126 * b) 126
-    by true e =
-        let few = leb-true (n - 126 * b) 126 e in
-        let rest = length-drop (126 * b) vs in
-        take_all (in_use n b) (drop (126 * b) vs) (omega arith) ∙ sym (take_all 126 (drop (126 * b) vs) (omega arith))
-    by false e =
-        let many = leb-false (n - 126 * b) 126 e in
-        ap (λ (k : ℕ). slice vs (126 * b) k) (let z : in_use n b ≡ 126 = omega arith in z)
+use Rattle.layouts.specs.Steps.{table_word, table_in}
 
 -- one block more is packed, and written
 packed_more : (b : ℕ) (vs : List ℕ) → packed (suc b) vs ≡ packed b vs ++ sealed (slice vs (126 * b) 126)
@@ -41,13 +28,13 @@ packed_more (suc b) vs =
     (drop-drop (126 * b) 126 vs ∙ ap (λ (k : ℕ). drop k vs) (let z : 126 + 126 * b ≡ 126 * suc b = omega arith in z)))
     ∙ sym (append_assoc (sealed (take 126 vs)) (packed b (drop 126 vs)) (sealed (slice vs (126 * suc b) 126)))
 
-pub block_more : (words vs : List ℕ) (n b used : ℕ) → length vs ≡ n → used ≡ in_use n b → {so_far now : List ℕ} → so_far ≡ sets words 128 (packed b vs)
-    → now ≡ sets so_far (128 * (1 + b)) (sealed (slice vs (126 * b) used)) → now ≡ sets words 128 (packed (b + 1) vs)
-block_more words vs n b used long is {so_far} before step =
+pub block_more : (words vs : List ℕ) (b : ℕ) {so_far now : List ℕ} → so_far ≡ sets words 128 (packed b vs)
+    → now ≡ sets so_far (128 * (1 + b)) (sealed (slice vs (126 * b) 126)) → now ≡ sets words 128 (packed (b + 1) vs)
+block_more words vs b {so_far} before step =
     let size = packed_length b vs in
     let at : 128 * (1 + b) ≡ 128 + length (packed b vs) = omega arith in
     step
-    ∙ ap₂ (λ (ws block : List ℕ). sets ws (128 * (1 + b)) (sealed block)) before (ap (slice vs (126 * b)) is ∙ used_all vs n b long)
+    ∙ ap (λ (ws : List ℕ). sets ws (128 * (1 + b)) (sealed (slice vs (126 * b) 126))) before
     ∙ ap (λ (k : ℕ). sets (sets words 128 (packed b vs)) k (sealed (slice vs (126 * b) 126))) at
     ∙ sym (sets_append words 128 (packed b vs) (sealed (slice vs (126 * b) 126)))
     ∙ ap (sets words 128) (sym (packed_more b vs) ∙ ap (λ (k : ℕ). packed k vs) (sym (add-one b)))
@@ -95,32 +82,31 @@ kept_before l at vs p room m =
     ∙ get_or-take at l p 0 m
 
 -- one block more is copied out
-pub copied_more : (words table : List ℕ) (n b used : ℕ) → length table ≡ n → used ≡ in_use n b → 126 * b < n → 128 * (2 + b) ≤ length words
-    → ((p : ℕ) → p < 126 * b → p < n → get_or table p 0 ≡ table_word words p) → {now : List ℕ}
-    → now ≡ sets table (126 * b) (slice words (128 * (1 + b)) used) → (p : ℕ) → p < 126 * (b + 1) → p < n → get_or now p 0 ≡ table_word words p
-copied_more words table n b used long is some room before {now} step p most l = by (ltb p (126 * b)) refl
+pub copied_more : (words table : List ℕ) (b end : ℕ) {block now : List ℕ} → end ≡ min (length table) (126 * b + 126) → 126 * b < length table
+    → block ≡ slice words (128 * (1 + b)) 128 → length block ≡ 128 → ((p : ℕ) → p < 126 * b → p < length table → get_or table p 0 ≡ table_word words p)
+    → now ≡ take (end - 126 * b) block → (p : ℕ) → p < 126 * (b + 1) → p < length table → get_or (sets table (126 * b) now) p 0 ≡ table_word words p
+copied_more words table b end {block} {now} is some is_block size before copied p most l = by (ltb p (126 * b)) refl
   where
-    size : length (slice words (128 * (1 + b)) used) ≡ used
-    size = slice_length words (128 * (1 + b)) used (omega arith)
+    long : length now ≡ end - 126 * b
+    long = ap length copied ∙ length-take-le (end - 126 * b) block (omega arith)
 
-    by : (t : Bool) → ltb p (126 * b) ≡ t → get_or now p 0 ≡ table_word words p
+    by : (t : Bool) → ltb p (126 * b) ≡ t → get_or (sets table (126 * b) now) p 0 ≡ table_word words p
     by true e =
         let early = ltb-true p (126 * b) e in
-        let z = size in
-        ap (λ (ws : List ℕ). get_or ws p 0) step
-        ∙ kept_before table (126 * b) (slice words (128 * (1 + b)) used) p (omega arith) early
-        ∙ before p early l
+        let z = long in
+        kept_before table (126 * b) now p (omega arith) early ∙ before p early l
     by false e =
         let late = ltb-false p (126 * b) e in
         let j = p - 126 * b in
-        let z = size in
+        let z = long in
         let here : p ≡ 126 * b + j = omega arith in
-        let block : 1 + b ≡ 1 + p / 126 = omega arith in
+        let at : 1 + b ≡ 1 + p / 126 = omega arith in
         let rest : j ≡ p % 126 = omega arith in
-        ap₂ (λ (ws : List ℕ) (k : ℕ). get_or ws k 0) step here
-        ∙ entered_in table (126 * b) (slice words (128 * (1 + b)) used) j (omega arith) (omega arith)
-        ∙ slice_at words (128 * (1 + b)) used j (omega arith)
-        ∙ ap₂ (λ (k i : ℕ). get_or words (128 * k + i) 0) block rest
+        ap (λ (k : ℕ). get_or (sets table (126 * b) now) k 0) here
+        ∙ entered_in table (126 * b) now j (omega arith) (omega arith)
+        ∙ ap (λ (ws : List ℕ). get_or ws j 0) copied ∙ get_or-take (end - 126 * b) block j 0 (omega arith)
+        ∙ ap (λ (ws : List ℕ). get_or ws j 0) is_block ∙ slice_at words (128 * (1 + b)) 128 j (omega arith)
+        ∙ ap₂ (λ (k i : ℕ). get_or words (128 * k + i) 0) at rest
 
 -- all are copied
 pub copied_all : (words table : List ℕ) (n : ℕ) → length table ≡ n → ((p : ℕ) → p < n → get_or table p 0 ≡ table_word words p) → table ≡ table_in words n

@@ -7,12 +7,12 @@ use native.Mathlib.Omega.{arith}
 use borrow.Author.Tests.{eqb-true, eqb-false, ne_eqb, ltb-true, ltb-false}
 use lib.Dec.{eqb, ltb}
 use lib.ListN.{length, get_or, take, drop, set, length-set, length-drop}
-use lib.Seq.{get_or-set_same, get_or-set_other, set-get_or, get_or-take, get_or-drop, take-take, take-set-lt, take-set-le, drop-set-add, length-take-le}
+use lib.Seq.{get_or-set_same, get_or-set_other, set-get_or, get_or-take, get_or-drop, take-set-lt, take-set-le, drop-set-add, length-take-le}
 use lib.Seq.{ext_get_or}
 use Rattle.terms.specs.Terms.{past_32_bits}
 use Rattle.sectors.specs.Sectors.{word_of, words_of, bytes_of, sum, check_of, good, first_bad, first_bad_in, whole_blocks}
 use Rattle.sectors.proofs.Words.{Bytes, words_length, word_is, word_small, bytes_back}
-use Rattle.sectors.proofs.Checks.{good_at, found, only_found}
+use Rattle.sectors.proofs.Checks.{good_at, within_128, found, only_found}
 
 -- the sum of words with one set
 set_sum : (vs : List ℕ) (i v : ℕ) → i < length vs → sum (set vs i v) + get_or vs i 0 ≡ sum vs + v
@@ -20,11 +20,6 @@ unfolding sum
 set_sum [] i v l = absurd (omega arith)
 set_sum (x ∷ vs) zero v l = omega arith
 set_sum (x ∷ vs) (suc i) v l = let more = set_sum vs i v (omega arith) in omega arith
-
--- a check looks at 128 words and no further
-within_128 : (words : List ℕ) → good (take 128 words) ≡ good words
-unfolding good
-within_128 words = ap₂ (λ (n : ℕ) (ws : List ℕ). eqb n (check_of ws)) (get_or-take 128 words 127 0 (omega arith)) (take-take 127 128 words (omega arith))
 
 -- a block with a good check has none once one of its words is changed
 changed_bad : (words : List ℕ) (i v : ℕ) → i < 128 → 128 ≤ length words → get_or words i 0 < past_32_bits → v < past_32_bits → (get_or words i 0 ≡ v → ⊥)

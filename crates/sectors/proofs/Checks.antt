@@ -1,59 +1,25 @@
--- The first block whose check is bad, from both sides: those before it are good and it is not; and how a loop finds it, one block after the other.
+-- The first block whose check is bad, from both sides: those before it are good and it is not.
 use mathlib.Core.Bool.{Bool, true, false, cond}
 use mathlib.Core.List.{List}
-use mathlib.Core.Path.{◌≡◌, refl, sym, ap, ◌∙◌}
-use Prim.Native.Nat.{ℕ, zero, suc, ◌+◌, ◌-◌, ◌*◌, ◌≤◌, ◌<◌}
+use mathlib.Core.Path.{◌≡◌, refl, sym, ap, ap₂, ◌∙◌}
+use Prim.Native.Nat.{ℕ, zero, suc, ◌+◌, ◌*◌, ◌≤◌, ◌<◌}
 use native.Mathlib.Omega.{arith}
-use borrow.Author.Tests.{eq-eqb, ne_eqb}
-use lib.ListN.{get_or, take, drop}
-use lib.Seq.{get_or-drop, drop-drop}
-use Rattle.sectors.specs.Sectors.{check_of, good, first_bad}
+use borrow.Author.Tests.{ltb-true, ltb-false}
+use lib.Dec.{eqb, ltb}
+use lib.ListN.{take, drop}
+use lib.Seq.{get_or-take, take-take, drop-drop}
+use Rattle.std.specs.Prelude.{Some, None}
+use Rattle.sectors.specs.Sectors.{words_of, check_of, good, first_bad, first_bad_in, whole_blocks}
+use Rattle.sectors.specs.Steps.{bad_block}
 
 -- Block b of some words has a good check.
 abbrev pub good_at : List ℕ → ℕ → Bool
 good_at words b = good (drop (128 * b) words)
 
--- as a loop goes: with the blocks before b looked at, the first bad one is the first of those that are left
-pub none_yet : (n : ℕ) (words : List ℕ) → first_bad n words ≡ 0 + first_bad (n - 0) words
-none_yet n words =
-    let all : n ≡ n - 0 = omega arith in
-    let same = ap (λ (k : ℕ). first_bad k words) all in
-    omega (arith, same)
-
-module _ (n b : ℕ) (words : List ℕ) (more : b < n) (so_far : first_bad n words ≡ b + first_bad (n - b) (drop (128 * b) words)) where
-  left : n - b ≡ suc (n - (b + 1))
-  left = omega arith
-
-  next : drop 128 (drop (128 * b) words) ≡ drop (128 * (b + 1)) words
-  next = drop-drop 128 (128 * b) words ∙ ap (λ (k : ℕ). drop k words) (let z : 128 * b + 128 ≡ 128 * (b + 1) = omega arith in z)
-
-  step : first_bad (n - b) (drop (128 * b) words) ≡ cond (good_at words b) (suc (first_bad (n - (b + 1)) (drop (128 * (b + 1)) words))) 0
-  unfolding first_bad
-  step =
-      ap (λ (k : ℕ). first_bad k (drop (128 * b) words)) left
-      ∙ ap (λ (ws : List ℕ). cond (good_at words b) (suc (first_bad (n - (b + 1)) ws)) 0) next
-
-  pub good_more : get_or words (128 * b + 127) 0 ≡ check_of (take 127 (drop (128 * b) words))
-      → first_bad n words ≡ b + 1 + first_bad (n - (b + 1)) (drop (128 * (b + 1)) words)
-  unfolding good
-  good_more right =
-      let here : good_at words b ≡ true = eq-eqb _ _ (get_or-drop (128 * b) words 127 0 ∙ right) in
-      let is = step ∙ ap (λ (t : Bool). cond t (suc (first_bad (n - (b + 1)) (drop (128 * (b + 1)) words))) 0) here in
-      omega (arith, so_far, is)
-
-  pub bad_here : (get_or words (128 * b + 127) 0 ≡ check_of (take 127 (drop (128 * b) words)) → ⊥) → b ≡ first_bad n words
-  unfolding good
-  bad_here wrong =
-      let here : good_at words b ≡ false = ne_eqb _ _ (λ e. wrong (sym (get_or-drop (128 * b) words 127 0) ∙ e)) in
-      let is = step ∙ ap (λ (t : Bool). cond t (suc (first_bad (n - (b + 1)) (drop (128 * (b + 1)) words))) 0) here in
-      omega (arith, so_far, is)
-
-pub none_left : (n b : ℕ) (words rest : List ℕ) → n ≤ b → b ≤ n → first_bad n words ≡ b + first_bad (n - b) rest → n ≡ first_bad n words
-unfolding first_bad
-none_left n b words rest k l so_far =
-    let none : n - b ≡ 0 = omega arith in
-    let is : first_bad (n - b) rest ≡ 0 = ap (λ (m : ℕ). first_bad m rest) none in
-    omega (arith, is, so_far)
+-- a check looks at 128 words and no further
+pub within_128 : (words : List ℕ) → good (take 128 words) ≡ good words
+unfolding good
+within_128 words = ap₂ (λ (n : ℕ) (ws : List ℕ). eqb n (check_of ws)) (get_or-take 128 words 127 0 (omega arith)) (take-take 127 128 words (omega arith))
 
 -- a block behind the first
 behind : (words : List ℕ) (b : ℕ) → good_at (drop 128 words) b ≡ good_at words (suc b)
@@ -95,3 +61,25 @@ only_found (suc n) words zero l is = rw (is.1 (omega arith)) refl
 only_found (suc n) words (suc k) l is =
     rw (is.0 0 (omega arith)) (ap suc (only_found n (drop 128 words) k (omega arith)
     ((λ b m. behind words b ∙ is.0 (suc b) (omega arith)), λ m. behind words k ∙ is.1 (omega arith))))
+
+-- what is told of a file's first bad block: which it is, or that there is none
+module _ (file : List ℕ) where
+  pub some_bad : (b : ℕ) → bad_block file ≡ Some b → (b ≡ first_bad_in file) × (b < whole_blocks file)
+  some_bad b is = by (ltb (first_bad_in file) (whole_blocks file)) refl is
+    where
+      by : (t : Bool) → ltb (first_bad_in file) (whole_blocks file) ≡ t → cond t (Some (first_bad_in file)) None ≡ Some b
+          → (b ≡ first_bad_in file) × (b < whole_blocks file)
+      by true e one =
+          let same : b ≡ first_bad_in file = cc in
+          (same, (let z = ltb-true (first_bad_in file) (whole_blocks file) e in omega arith))
+      by false e one = absurd (let z : ◌≡◌ {A = ℕ} 0 1 = cc in omega arith)
+
+  pub no_bad : bad_block file ≡ None → first_bad_in file ≡ whole_blocks file
+  no_bad is = by (ltb (first_bad_in file) (whole_blocks file)) refl is
+    where
+      by : (t : Bool) → ltb (first_bad_in file) (whole_blocks file) ≡ t → cond t (Some (first_bad_in file)) None ≡ None → first_bad_in file ≡ whole_blocks file
+      by true e none = absurd (let z : ◌≡◌ {A = ℕ} 0 1 = cc in omega arith)
+      by false e none =
+          let most = not_beyond (whole_blocks file) (words_of file) in
+          let least = ltb-false (first_bad_in file) (whole_blocks file) e in
+          omega arith

@@ -1,7 +1,9 @@
 pub mod Words
 pub mod Entering
 pub mod Checks
+pub mod Blocks
 pub mod Sealing
 pub mod Packing
 pub mod Changed
 pub mod Small
+pub mod Summing

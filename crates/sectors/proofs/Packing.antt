@@ -66,12 +66,12 @@ module _ (vs : List ℕ) (few : length vs ≤ 126) where
     rest_length = length-drop (128 * b) words
 
     -- from the places to the block
-    module _ (has : Has words (128 * b) vs 0 (length vs)) (framed : Framed words b (length vs)) (right : good_at words b ≡ true) where
+    module _ (has : Has words (128 * b) vs) (framed : Framed words b (length vs)) (right : good_at words b ≡ true) where
       place : (j : ℕ) → j < 126 → get_or words (128 * b + j) 0 ≡ get_or vs j 0
       place j l = by (ltb j (length vs)) refl
         where
           by : (used : Bool) → ltb j (length vs) ≡ used → get_or words (128 * b + j) 0 ≡ get_or vs j 0
-          by true e = has j (ltb-true j (length vs) e) ∙ ap (λ (k : ℕ). get_or vs k 0) (let z : 0 + j ≡ j = omega arith in z)
+          by true e = has j (ltb-true j (length vs) e)
           by false e = let unused = ltb-false j (length vs) e in framed.0 j unused l ∙ sym (get_or-eq_default vs 0 unused)
 
       content_is : slice words (128 * b) 126 ≡ content
@@ -102,9 +102,8 @@ module _ (vs : List ℕ) (few : length vs ≤ 126) where
       word_of_it : (j : ℕ) → j < 128 → get_or words (128 * b + j) 0 ≡ get_or (sealed vs) j 0
       word_of_it j l = sym (slice_at words (128 * b) 128 j l) ∙ ap (λ (ws : List ℕ). get_or ws j 0) is
 
-      pub block_has : Has words (128 * b) vs 0 (length vs)
-      block_has j l =
-          word_of_it j (omega arith) ∙ content_at j (omega arith) ∙ ap (λ (k : ℕ). get_or vs k 0) (let z : j ≡ 0 + j = omega arith in z)
+      pub block_has : Has words (128 * b) vs
+      block_has j l = word_of_it j (omega arith) ∙ content_at j (omega arith)
 
       pub block_framed : Framed words b (length vs)
       block_framed =

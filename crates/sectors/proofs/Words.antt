@@ -1,11 +1,13 @@
 -- Words and their bytes: each is the other's way back; a word by its four bytes, and words with one entered; and the sum of words.
-use mathlib.Core.List.{List, [], ◌∷◌, ◌++◌}
+use mathlib.Core.List.{List, [], ◌∷◌, ◌++◌, append_assoc}
 use mathlib.Core.Path.{◌≡◌, refl, sym, ap, ap₂, ◌∙◌}
-use Prim.Native.Nat.{ℕ, zero, suc, ◌+◌, ◌*◌, ◌/◌, ◌%◌, ◌≤◌, ◌<◌}
+use Prim.Native.Nat.{ℕ, zero, suc, ◌+◌, ◌*◌, ◌/◌, ◌%◌, ◌^◌, ◌≤◌, ◌<◌}
 use native.Mathlib.Numerals.{add-one}
 use native.Mathlib.Omega.{arith}
-use lib.ListN.{length, get_or, take, set}
-use lib.Seq.{take-suc}
+use lib.ListN.{length, get_or, take, drop, set, replicate, take-append-drop, length-drop}
+use borrow.Rule.Slice.PartMut.{put_mid}
+use lib.Seq.{sets, sets-eq, drop-drop, take-suc, take_at, drop_at, length-take-le}
+use Rattle.std.specs.Int.{w32, to_le_bytes, from_le_bytes}
 use Rattle.terms.specs.Terms.{past_32_bits}
 use Rattle.sectors.specs.Sectors.{word_of, words_of, bytes_of, sum}
 
@@ -44,6 +46,65 @@ words_set (x ∷ y ∷ z ∷ []) i a b c d l = absurd (omega arith)
 words_set (x ∷ y ∷ z ∷ w ∷ rest) zero a b c d l = refl
 words_set (x ∷ y ∷ z ∷ w ∷ rest) (suc i) a b c d l =
     rw (four_on i 1, four_on i 2, four_on i 3, four_more i) (ap (λ (ws : List ℕ). word_of x y z w ∷ ws) (words_set rest i a b c d (omega arith)))
+
+-- words of bytes one behind the other, of the bytes up to a word and from it on, and of zeros
+pub words_append : (xs ys : List ℕ) → length xs % 4 ≡ 0 → words_of (xs ++ ys) ≡ words_of xs ++ words_of ys
+unfolding words_of
+words_append [] ys whole = refl
+words_append (a ∷ []) ys whole = absurd (omega arith)
+words_append (a ∷ b ∷ []) ys whole = absurd (omega arith)
+words_append (a ∷ b ∷ c ∷ []) ys whole = absurd (omega arith)
+words_append (a ∷ b ∷ c ∷ d ∷ xs) ys whole = ap (λ (ws : List ℕ). word_of a b c d ∷ ws) (words_append xs ys (omega arith))
+
+module _ (bytes : List ℕ) (n : ℕ) (room : 4 * n ≤ length bytes) where
+  front : length (words_of (take (4 * n) bytes)) ≡ n
+  front =
+      let long = length-take-le (4 * n) bytes room in
+      words_length (take (4 * n) bytes) ∙ omega (arith, long)
+
+  in_two : words_of bytes ≡ words_of (take (4 * n) bytes) ++ words_of (drop (4 * n) bytes)
+  in_two =
+      let long = length-take-le (4 * n) bytes room in
+      ap words_of (sym (take-append-drop (4 * n) bytes)) ∙ words_append (take (4 * n) bytes) (drop (4 * n) bytes) (omega (arith, long))
+
+  pub words_take : words_of (take (4 * n) bytes) ≡ take n (words_of bytes)
+  words_take = sym (take_at (words_of (take (4 * n) bytes)) (words_of (drop (4 * n) bytes)) n front) ∙ ap (take n) (sym in_two)
+
+  pub words_drop : words_of (drop (4 * n) bytes) ≡ drop n (words_of bytes)
+  words_drop = sym (drop_at (words_of (take (4 * n) bytes)) (words_of (drop (4 * n) bytes)) n front) ∙ ap (drop n) (sym in_two)
+
+pub words_slice : (bytes : List ℕ) (at n : ℕ) → 4 * (at + n) ≤ length bytes → words_of (take (4 * n) (drop (4 * at) bytes)) ≡ take n (drop at (words_of bytes))
+words_slice bytes at n room =
+    let long = length-drop (4 * at) bytes in
+    words_take (drop (4 * at) bytes) n (omega arith) ∙ ap (take n) (words_drop bytes at (omega arith))
+
+pub words_put : (bytes now : List ℕ) (at n : ℕ) → 4 * (at + n) ≤ length bytes → length now ≡ 4 * n
+    → words_of (put_mid (4 * at) (4 * n) bytes now) ≡ sets (words_of bytes) at (words_of now)
+words_put bytes now at n room size =
+    let front = length-take-le (4 * at) bytes (omega arith) in
+    let left = length-drop (4 * at) bytes in
+    let all = words_length bytes in
+    let many : length (words_of now) ≡ n = words_length now ∙ omega (arith, size) in
+    words_append (take (4 * at) bytes) (now ++ drop (4 * n) (drop (4 * at) bytes)) (omega (arith, front))
+    ∙ ap₂ ◌++◌ (words_take bytes at (omega arith)) (words_append now (drop (4 * n) (drop (4 * at) bytes)) (omega (arith, size))
+    ∙ ap (λ (ws : List ℕ). words_of now ++ ws) (words_drop (drop (4 * at) bytes) n (omega arith)
+    ∙ ap (drop n) (words_drop bytes at (omega arith)) ∙ drop-drop n at (words_of bytes) ∙ ap (λ (k : ℕ). drop (at + k) (words_of bytes)) (sym many)))
+    ∙ sym (append_assoc (take at (words_of bytes)) (words_of now) (drop (at + length (words_of now)) (words_of bytes)))
+    ∙ sym (sets-eq (words_of now) (words_of bytes) at (omega arith))
+
+pub words_zero : (n : ℕ) → words_of (replicate {A = ℕ} (4 * n) 0) ≡ replicate {A = ℕ} n 0
+unfolding words_of
+words_zero zero = refl
+words_zero (suc n) = rw (four_more n) (ap (λ (ws : List ℕ). 0 ∷ ws) (words_zero n))
+
+-- the library's word of four bytes, and its bytes of a word
+pub le_word : (a b c d : ℕ) → from_le_bytes w32 (a ∷ b ∷ c ∷ d ∷ []) ≡ word_of a b c d
+le_word a b c d = omega arith
+
+pub le_bytes : (v : ℕ) → v < past_32_bits → to_le_bytes w32 v ≡ v % 256 ∷ v / 256 % 256 ∷ v / 256 / 256 % 256 ∷ v / 256 / 256 / 256 ∷ []
+le_bytes v small =
+    ap₂ (λ (x y : ℕ). v % 256 ∷ v / 256 % 256 ∷ x ∷ y ∷ []) (let z : v / 256 ^ 2 % 256 ≡ v / 256 / 256 % 256 = omega arith in z)
+    (let z : v / 256 ^ 3 % 256 ≡ v / 256 / 256 / 256 = omega arith in z)
 
 -- a word is that of its bytes, and bytes are those of their word
 pub digits : (v : ℕ) → word_of (v % 256) (v / 256 % 256) (v / 256 / 256 % 256) (v / 256 / 256 / 256) ≡ v

@@ -4,10 +4,10 @@ use Prim.Native.Nat.{◌+◌, ◌*◌}
 use Rattle.holdings.proofs.+held.Given as goal
 
 abbrev pub decreases-block_held : goal.decreases-block_held
-decreases-block_held l = 3 * (l.k.a * l.k.b) + 2
+decreases-block_held l = 3 * (l.k.placed.a * l.k.placed.b) + 2
 
 abbrev pub decreases-long_cut_held : goal.decreases-long_cut_held
-decreases-long_cut_held l = 3 * (l.k.a * l.k.b)
+decreases-long_cut_held l = 3 * (l.k.placed.a * l.k.placed.b)
 
 abbrev pub decreases-u_cut_held : goal.decreases-u_cut_held
-decreases-u_cut_held l = 3 * (l.k.a * l.k.b)
+decreases-u_cut_held l = 3 * (l.k.placed.a * l.k.placed.b)

@@ -10,4 +10,4 @@ use Rattle.holdings.proofs.straight_held.Given as goal
 
 abbrev pub invariant-loop-i : goal.invariant-loop-i
 invariant-loop-i l =
-    (l.i ≤ l.i-end) × (l.right ≡ over (right_one (table_in (words_of l.file) (l.area.w * l.area.h))) true l.at (run_places l.k l.w l.i))
+    (l.i ≤ l.i-end) × (l.right ≡ over (right_one (table_in (words_of l.file) (l.area.w * l.area.h))) true l.k.first (run_places l.k.placed l.w l.i))

@@ -13,8 +13,9 @@ block_held-requires c =
     let w = c.args.area.w in
     let h = c.args.area.h in
     let limits = c.requires.0 in
-    let whole = block c.whole_block.result in
-    let lies = whole_fits false w h (w * h) limits.w_least limits.w_most limits.h_least limits.h_most (omega arith) whole c.whole_block.ensures in
+    let whole = block c.whole.result.placed in
+    let lies = whole_fits false w h (w * h) limits.w_least limits.w_most limits.h_least limits.h_most (omega arith) whole
+    c.whole.ensures.placed c.whole.ensures.first in
     (c.requires.1, lies)
 
 pub returns : goal.returns
@@ -22,6 +23,7 @@ returns c =
     let w = c.args.area.w in
     let h = c.args.area.h in
     let limits = c.requires.0 in
-    let whole = block c.whole_block.result in
-    let lies = whole_fits false w h (w * h) limits.w_least limits.w_most limits.h_least limits.h_most (omega arith) whole c.whole_block.ensures in
-    whole_tells w h (words_of c.args.file.now) lies c.whole_block.ensures c.block_held.ensures
+    let whole = block c.whole.result.placed in
+    let lies = whole_fits false w h (w * h) limits.w_least limits.w_most limits.h_least limits.h_most (omega arith) whole
+    c.whole.ensures.placed c.whole.ensures.first in
+    whole_tells w h (words_of c.args.file.now) lies c.whole.ensures.placed c.whole.ensures.first c.block_held.ensures

@@ -1,23 +1,13 @@
--- A block that is good leaves the first bad one to those after it; one that is not is the first.
-use Rattle.std.proofs.Common.{◌/◌, ◌*◌, length, drop, sym, ◌∙◌, arith}
-use Rattle.sectors.specs.Sectors.{words_of}
-use Rattle.sectors.proofs.Checks.{good_more, bad_here, none_yet, none_left}
+-- `sectors::first_bad` meets its contract: the place among a file's blocks at which the test passes first is that of its first bad block.
+use Rattle.std.proofs.Common.{◌/◌, length, rules, ap₂, ◌∙◌, cond, nat_lt, ℕ, Some, None, arith}
+use borrow.Author.Tests.{tests}
+use Rattle.std.proofs.lemmas.Iterator.Search.{position_from_yields_List}
+use Rattle.sectors.proofs.Blocks.{blocks_in_turn, bad, first_bad_found, parts_length}
 use Rattle.sectors.proofs.first_bad.Goals as goal
-
-pub loop-b-init : goal.loop-b-init
-loop-b-init c = none_yet (length c.args.bytes.now / 512) (words_of c.args.bytes.now)
-
-pub returns-then-word_at-check_due : goal.returns-then-word_at-check_due
-returns-then-word_at-check_due c =
-    bad_here (length c.args.bytes.now / 512) c.loop-b.b (words_of c.args.bytes.now) c.loop-b-test.true c.loop-b.invariant
-    (λ e. c.if-word_at-check_due.true (c.word_at.ensures ∙ e ∙ sym c.check_due.ensures))
-
-pub loop-b-preserved : goal.loop-b-preserved
-loop-b-preserved c =
-    good_more (length c.args.bytes.now / 512) c.loop-b.b (words_of c.args.bytes.now) c.loop-b-test.true c.loop-b.invariant
-    (sym c.word_at.ensures ∙ c.if-word_at-check_due.false ∙ c.check_due.ensures)
 
 pub returns : goal.returns
 returns c =
-    let words = words_of c.args.bytes.now in
-    none_left _ c.loop-b.b words (drop (128 * c.loop-b.b) words) (omega arith) (omega arith) c.loop-b.invariant
+    let file = c.args.file.now in
+    position_from_yields_List bad _ _ c.position.result c.position.ensures.ran (blocks_in_turn file c.chunks_exact.ensures.rest c.chunks_exact.ensures.size)
+    (λ x b q k. search (rules, tests))
+    ∙ ap₂ (λ (k n : ℕ). cond (nat_lt k n) (Some k) None) (first_bad_found (length file / 512) file (omega arith)) (parts_length 512 (length file / 512) file)

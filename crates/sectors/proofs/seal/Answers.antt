@@ -7,6 +7,6 @@ use Rattle.sectors.proofs.seal.Goals as goal
 
 pub returns : goal.returns
 returns c =
-    let all = words_length c.args.bytes.now in
-    count_and_check (words_of c.args.bytes.now) c.args.b c.args.used c.check_due-due.result (omega arith) c.put_word.ensures c.check_due-due.ensures
+    let all = words_length c.args.block.now in
+    count_and_check (words_of c.args.block.now) c.args.used c.check_due-due.result (omega arith) c.put_word.ensures c.check_due-due.ensures
     c.put_word-2.ensures
