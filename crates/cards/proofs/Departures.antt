@@ -236,7 +236,7 @@ module _ (w h : ℕ) (ok : accepted w h ≡ true) (kind : ℕ) where
             (found (whole_blocks file) (words_of file)).0 b
             (subst⁻¹ (λ (k : ℕ). b < k) ((none_bad file).1 checks) (let z = size in omega arith))
 
-        four : Has (words_of file) 0 (head w h kind) 0 4
+        four : Has (words_of file) 0 (head w h kind)
         four zero l = s.version
         four (suc zero) l = s.width
         four (suc (suc zero)) l = s.height

@@ -6,14 +6,15 @@ use mathlib.Core.Logic.{inl, inr}
 use mathlib.Core.Path.{◌≡◌, refl, sym, ap, ap₂, ◌∙◌}
 use Prim.Native.Nat.{ℕ, ◌+◌, ◌*◌, ◌/◌, ◌%◌, ◌<◌}
 use native.Mathlib.Omega.{arith}
+use borrow.Author.Tests.{ne_eqb}
 use lib.Dec.{eqb}
 use lib.ListN.{length, get_or, set, replicate, length-set, length-replicate}
 use Rattle.terms.specs.declared.Area.{Area}
 use Rattle.terms.specs.declared.Refusal.{Refusal}
 use Rattle.terms.specs.declared.Refusal.TheVariants.{BadCheck}
-use Rattle.terms.specs.Terms.{accepted, past_32_bits, Figures, answered, refused_with}
+use Rattle.terms.specs.Terms.{accepted, past_32_bits, refusal_number, Figures, answered, refused_with}
 use Rattle.terms.proofs.Limits.{limits, both_accepted}
-use Rattle.terms.proofs.Refusals.{named, named_back, refusal_not_0, figure}
+use Rattle.terms.proofs.Refusals.{named, named_back, refusal_not_0, refusal_one, figure}
 use Rattle.terms.proofs.OneAnswer.{one_equation, by_figures}
 use Rattle.terms.proofs.Meanings.{lengths_exactly, squares_exactly}
 use Rattle.sectors.specs.Sectors.{first_bad_in}
@@ -25,9 +26,10 @@ use Rattle.tables.proofs.PlaceByPlace.{due_length}
 use Rattle.layouts.specs.Layouts.{table_blocks, right_table, card, card_bytes}
 use Rattle.layouts.proofs.Accepting.{card_good, card_length}
 use Rattle.layouts.proofs.CardBytes.{due_below, card_of_bytes}
-use Rattle.cards.specs.declared.LengthAnswer as LengthAnswers
-use Rattle.cards.specs.declared.WriteAnswer as WriteAnswers
-use Rattle.cards.specs.declared.ReadAnswer as ReadAnswers
+use Rattle.std.specs.Prelude.{Result, Ok, Err, IfErr, ⊤}
+use Rattle.cards.specs.declared.Unread.{Unread}
+use Rattle.cards.specs.declared.Unread.TheVariants as Unreads
+use Rattle.cards.specs.Fitting.{TellsBlock}
 use Rattle.cards.specs.Cards.{write, read, measure, file_after, table_after, length_figures, write_figures, read_figures}
 use Rattle.cards.specs.Cards.{write_at, file_after_at, read_at, table_after_at, measure_at}
 use Rattle.cards.proofs.Refused.{Kind, Fits, FirstBad, first_bad_is, write_answered, read_answered, read_refused_14, block_told}
@@ -127,44 +129,50 @@ module _ (a b : Area) (wide : a.w ≡ b.w) (high : a.h ≡ b.h) (kind : ℕ) whe
   origin_unmeasured = ap₂ measure wide high
 
 -- Two answers that meet a promise are one, and so are the files and tables that they leave.
-length_from : Figures → LengthAnswers.LengthAnswer
-length_from f = cond (eqb f.refusal 0) (LengthAnswers.TheVariants.Bytes (figure 0 f)) (LengthAnswers.TheVariants.Refused (named f.refusal))
+length_from : Figures → Result ℕ Refusal
+length_from f = cond (eqb f.refusal 0) (Ok (figure 0 f)) (Err (named f.refusal))
 
-length_told : (r : LengthAnswers.LengthAnswer) → length_from (length_figures r) ≡ r
+length_told : (r : Result ℕ Refusal) → length_from (length_figures r) ≡ r
 unfolding length_from
-length_told (LengthAnswers.TheVariants.Bytes n) = refl
-length_told (LengthAnswers.TheVariants.Refused r) = rw (refusal_not_0 r) (ap LengthAnswers.TheVariants.Refused (named_back r))
+length_told (Ok n) = refl
+length_told (Err r) = rw (refusal_not_0 r) (ap Err (named_back r))
 
-pub length_one : (r s : LengthAnswers.LengthAnswer) {f : Figures} → length_figures r ≡ f → length_figures s ≡ f → r ≡ s
+pub length_one : (r s : Result ℕ Refusal) {f : Figures} → length_figures r ≡ f → length_figures s ≡ f → r ≡ s
 length_one = by_figures length_figures length_from length_told
 
-write_from : Figures → WriteAnswers.WriteAnswer
-write_from f = cond (eqb f.refusal 0) WriteAnswers.TheVariants.Written (WriteAnswers.TheVariants.Refused (named f.refusal))
+write_from : Figures → Result ⊤ Refusal
+write_from f = cond (eqb f.refusal 0) (Ok tt) (Err (named f.refusal))
 
-write_told : (r : WriteAnswers.WriteAnswer) → write_from (write_figures r) ≡ r
+write_told : (r : Result ⊤ Refusal) → write_from (write_figures r) ≡ r
 unfolding write_from
-write_told WriteAnswers.TheVariants.Written = refl
-write_told (WriteAnswers.TheVariants.Refused r) = rw (refusal_not_0 r) (ap WriteAnswers.TheVariants.Refused (named_back r))
+write_told (Ok u) = refl
+write_told (Err r) = rw (refusal_not_0 r) (ap Err (named_back r))
 
-pub write_one : (r s : WriteAnswers.WriteAnswer) {f : Figures} {x y left : List ℕ} → (write_figures r ≡ f) × (x ≡ left) → (write_figures s ≡ f) × (y ≡ left)
+pub write_one : (r s : Result ⊤ Refusal) {f : Figures} {x y left : List ℕ} → (write_figures r ≡ f) × (x ≡ left) → (write_figures s ≡ f) × (y ≡ left)
     → (r ≡ s) × (x ≡ y)
 write_one r s p q = (by_figures write_figures write_from write_told r s p.0 q.0, one_equation p.1 q.1)
 
-read_from : Figures → ReadAnswers.ReadAnswer
-read_from f = cond (eqb f.refusal 0) ReadAnswers.TheVariants.Read (ReadAnswers.TheVariants.Refused (named f.refusal) (figure 0 f))
+-- a bad check is told with its block, so that its figures tell it
+unread_from : Figures → Unread
+unread_from f = cond (eqb f.refusal 14) (Unreads.BadCheck (figure 0 f)) (Unreads.Refused (named f.refusal))
 
-read_told : (r : ReadAnswers.ReadAnswer) → read_from (read_figures r) ≡ r
-unfolding read_from
-read_told ReadAnswers.TheVariants.Read = refl
-read_told (ReadAnswers.TheVariants.Refused r block) =
-    rw (refusal_not_0 r) (ap (λ (s : Refusal). ReadAnswers.TheVariants.Refused s block) (named_back r))
+read_from : Figures → Result ⊤ Unread
+read_from f = cond (eqb f.refusal 0) (Ok tt) (Err (unread_from f))
 
-pub read_one : (r s : ReadAnswers.ReadAnswer) {f : Figures} {x y left : List ℕ} → (read_figures r ≡ f) × (x ≡ left) → (read_figures s ≡ f) × (y ≡ left)
-    → (r ≡ s) × (x ≡ y)
-read_one r s p q = (by_figures read_figures read_from read_told r s p.0 q.0, one_equation p.1 q.1)
+read_told : (r : Result ⊤ Unread) → IfErr r TellsBlock → read_from (read_figures r) ≡ r
+unfolding read_from unread_from
+read_told (Ok u) told = refl
+read_told (Err (Unreads.BadCheck block)) told = refl
+read_told (Err (Unreads.Refused r)) told =
+    rw (refusal_not_0 r, ne_eqb (refusal_number r) 14 (λ e. told (ap Unreads.Refused (refusal_one r BadCheck e))))
+    (ap (λ (s : Refusal). Err (Unreads.Refused s)) (named_back r))
+
+pub read_one : (r s : Result ⊤ Unread) {f : Figures} {x y left : List ℕ} → (read_figures r ≡ f) × (IfErr r TellsBlock) × (x ≡ left)
+    → (read_figures s ≡ f) × (IfErr s TellsBlock) × (y ≡ left) → (r ≡ s) × (x ≡ y)
+read_one r s p q = (sym (read_told r p.1) ∙ ap read_from (one_equation p.0 q.0) ∙ read_told s q.1, one_equation p.2 q.2)
 
 -- The bytes that are told are those of the area's card, of either kind.
-pub bytes_fields : (area : Area) (n : ℕ) → length_figures (LengthAnswers.TheVariants.Bytes n) ≡ measure_at area → (kind : ℕ)
+pub bytes_fields : (area : Area) (n : ℕ) → length_figures (Ok n) ≡ measure_at area → (kind : ℕ)
     → n ≡ length (card area.w area.h kind)
 bytes_fields area n e kind =
     let asked = (measure_answered area.w area.h).0 (ap (λ (f : Figures). f.refusal) (sym e)) in

@@ -1,7 +1,8 @@
 -- What writing and reading a card answer, and what they leave of the lent file and the lent table, for every area, kind, table and file; and how long a card's
 -- file is. Document 02, order 8, from "Writer and reader are told the area and the kind" to "A refusal writes nothing."
-use Rattle.std.specs.Prelude.{Bool, not, ◌||◌, List, [], ◌∷◌, ℕ, ◌*◌, eqb, length}
+use Rattle.std.specs.Prelude.{Bool, not, ◌||◌, Result, Ok, Err, ⊤, List, [], ◌∷◌, ℕ, ◌*◌, eqb, length}
 use Rattle.terms.specs.declared.Area.{Area}
+use Rattle.terms.specs.declared.Refusal.{Refusal}
 use Rattle.terms.specs.declared.Refusal.TheVariants.{AreaLimit, TableLength, TooDeep, TooManySquares, BadCheck, Departure}
 use Rattle.terms.specs.Terms.{lengths_accepted, squares_accepted, Figures, answered, refused, refused_with}
 use Rattle.terms.specs.Guards.{Guard, ◌else◌, ◌telling◌, guarded, area_guards}
@@ -9,9 +10,8 @@ use Rattle.terms.specs.Comparing.{same_numbers}
 use Rattle.sectors.specs.Sectors.{whole_blocks, first_bad_in}
 use Rattle.tables.specs.Tables.{some_deep, unless_refused}
 use Rattle.layouts.specs.Layouts.{right_table, card, card_bytes}
-use Rattle.cards.specs.declared.LengthAnswer as LengthAnswers
-use Rattle.cards.specs.declared.WriteAnswer as WriteAnswers
-use Rattle.cards.specs.declared.ReadAnswer as ReadAnswers
+use Rattle.cards.specs.declared.Unread.{Unread}
+use Rattle.cards.specs.declared.Unread.TheVariants as Unreads
 
 -- "kind (1 by number, 2 by square)"
 abbrev pub kind_known : (kind : ℕ) → Bool
@@ -77,14 +77,15 @@ abbrev pub measure_at : Area → Figures
 measure_at area = measure area.w area.h
 
 -- The figures of the answers.
-abbrev pub length_figures : LengthAnswers.LengthAnswer → Figures
-length_figures (LengthAnswers.TheVariants.Bytes bytes) = answered (bytes ∷ [])
-length_figures (LengthAnswers.TheVariants.Refused r) = refused r 1
+abbrev pub length_figures : Result ℕ Refusal → Figures
+length_figures (Ok bytes) = answered (bytes ∷ [])
+length_figures (Err r) = refused r 1
 
-abbrev pub write_figures : WriteAnswers.WriteAnswer → Figures
-write_figures WriteAnswers.TheVariants.Written = answered []
-write_figures (WriteAnswers.TheVariants.Refused r) = refused r 0
+abbrev pub write_figures : Result ⊤ Refusal → Figures
+write_figures (Ok u) = answered []
+write_figures (Err r) = refused r 0
 
-abbrev pub read_figures : ReadAnswers.ReadAnswer → Figures
-read_figures ReadAnswers.TheVariants.Read = answered (0 ∷ [])
-read_figures (ReadAnswers.TheVariants.Refused r block) = refused_with r (block ∷ [])
+abbrev pub read_figures : Result ⊤ Unread → Figures
+read_figures (Ok u) = answered (0 ∷ [])
+read_figures (Err (Unreads.BadCheck block)) = refused_with BadCheck (block ∷ [])
+read_figures (Err (Unreads.Refused r)) = refused_with r (0 ∷ [])

@@ -1,25 +1,26 @@
--- `cards::card_length` meets its contract: the area's guards, and where they pass the length of its card.
+-- `cards::card_length` meets its contract: an area that is let in has a length, and any other its refusal.
 use mathlib.Core.List.{[], ◌∷◌}
 use mathlib.Core.Path.{refl, sym, ap, ◌∙◌}
 use Prim.Native.Nat.{ℕ}
 use Rattle.terms.specs.Terms.{answered}
 use Rattle.terms.specs.Guards.{area_guards}
-use Rattle.terms.proofs.Guards.{passed, refused_first, answered_so}
+use Rattle.terms.proofs.Guards.{handed_on, passed, refused_first, answered_so}
 use Rattle.layouts.specs.Layouts.{card_bytes}
-use Rattle.cards.specs.Cards.{measure}
+use Rattle.cards.specs.Cards.{measure, length_figures}
 use Rattle.cards.proofs.card_length.Goals as goal
 
-pub returns-in-Refused : goal.returns-in-Refused
+pub returns-in_err-admit_area : goal.returns-in_err-admit_area
 unfolding measure
-returns-in-Refused c =
+returns-in_err-admit_area c =
     let area = c.args.area in
-    refused_first 2 (area_guards area.w area.h) 1 (card_bytes area.w area.h ∷ []) refl c.in-Refused.r
-    (sym c.admit_area.ensures ∙ c.in-Refused.is)
+    ap length_figures (handed_on c.from_residual.ensures)
+    ∙ refused_first 2 (area_guards area.w area.h) 1 (card_bytes area.w area.h ∷ []) refl c.in_err-admit_area.field-0.0
+    (sym c.admit_area.ensures ∙ c.in_err-admit_area.was)
 
-pub returns-in-Granted : goal.returns-in-Granted
+pub returns : goal.returns
 unfolding measure
-returns-in-Granted c =
+returns c =
     let area = c.args.area in
     ap (λ (n : ℕ). answered (n ∷ [])) c.bytes_for.ensures
-    ∙ sym (answered_so (area_guards area.w area.h) 1 (card_bytes area.w area.h ∷ []) (let area = c.args.area in
-    passed (area_guards area.w area.h) (sym c.admit_area.ensures ∙ c.in-Granted.is)))
+    ∙ sym (answered_so (area_guards area.w area.h) 1 (card_bytes area.w area.h ∷ [])
+    (passed (area_guards area.w area.h) (sym c.admit_area.ensures ∙ c.in_ok-admit_area.was)))
