@@ -1,92 +1,43 @@
 -- Numbers taken up into runs: two stretches, one right behind the other, are one stretch; a walk over squares of which those from p on and below q pass
--- its test takes up one stretch. The score never loses a run, and has never more runs than there were numbers.
-use mathlib.Core.Bool.{Bool, true, false, cond, and-eq-true_iff}
+-- its test takes up one stretch. There are never more runs than there were numbers, and how many there are does not depend on where their pairs go.
+use mathlib.Core.Bool.{Bool, true, false, not, cond, and-eq-true_iff}
 use mathlib.Core.List.{List, [], ◌∷◌, ◌++◌, map}
-use mathlib.Core.Path.{◌≡◌, refl, sym, ap, ap₂, subst⁻¹, ◌∙◌}
+use mathlib.Core.Path.{◌≡◌, refl, sym, ap, ap₂, ◌∙◌}
 use Prim.Native.Nat.{ℕ, zero, suc, ◌+◌, ◌-◌, ◌*◌, ◌≤◌, ◌<◌}
-use native.Mathlib.Nat.{le_refl, add-zero, add-suc, suc-add}
+use native.Mathlib.Nat.{add-zero, add-suc, suc-add}
 use native.Mathlib.Omega.{arith}
-use borrow.Author.Tests.{eqb-true, eq-eqb, leb-true, ltb-true, le-leb, lt-ltb}
-use lib.Dec.{leb, ltb, eqb}
-use lib.ListN.{length, get_or, set}
+use borrow.Author.Tests.{eq-eqb, leb-true, ltb-true, le-leb, lt-ltb}
+use lib.Dec.{leb, ltb}
+use lib.ListN.{length, get_or}
 use lib.Seq.{set-set}
-use Rattle.terms.specs.Terms.{past_32_bits}
+use Rattle.std.specs.Prelude.{Some}
 use Rattle.division.specs.Division.{Square, square, whole, curve}
 use Rattle.panes.specs.declared.Pane.{Pane}
-use Rattle.panes.specs.Panes.{in_span, Tally, tally, no_runs, runs_in, behind, joined_score, joined_pairs, joined, over, in_pane, seen, runs_of}
+use Rattle.panes.specs.Panes.{in_span, Tally, tally, none, begun, ended, follows, joined, over, in_pane, seen, runs_of}
 
--- the score and the pairs with p to q taken up, by whether they follow the last run
-pub score_by : (score p q : ℕ) (t : Bool) → eqb (behind score) p ≡ t
-    → joined_score score p q ≡ cond t (score + (q - p)) ((runs_in score + 1) * past_32_bits + q)
-unfolding joined_score
-score_by score p q t e = rw e refl
+-- the runs with p to q taken up, by whether they follow the last one
+pub joined_by : (t : Tally) (p q : ℕ) (same : Bool) → follows t p ≡ same → joined t p q ≡ ended (cond same t (begun t p)) q
+unfolding joined
+joined_by t p q same e = ap (λ b. ended (cond b t (begun t p)) q) e
 
-pairs_by : (score : ℕ) (pairs : List ℕ) (p q : ℕ) (t : Bool) → eqb (behind score) p ≡ t
-    → joined_pairs score pairs p q
-    ≡ cond t (set pairs (2 * runs_in score - 1) (q - 1)) (set (set pairs (2 * runs_in score) p) (2 * runs_in score + 1) (q - 1))
-unfolding joined_pairs
-pairs_by score pairs p q t e = rw e refl
-
-pub joined_by : (t : Tally) (p q : ℕ) (same : Bool) → eqb (behind t.score) p ≡ same
-    → joined t p q
-    ≡ tally (cond same (t.score + (q - p)) ((runs_in t.score + 1) * past_32_bits + q))
-    (cond same (set t.pairs (2 * runs_in t.score - 1) (q - 1))
-    (set (set t.pairs (2 * runs_in t.score) p) (2 * runs_in t.score + 1) (q - 1)))
-joined_by t p q same e = ap₂ tally (score_by t.score p q same e) (pairs_by t.score t.pairs p q same e)
-
--- Without pairs there is only the score.
-none_by : (score p q : ℕ) (t : Bool) → eqb (behind score) p ≡ t → joined_pairs score [] p q ≡ []
-none_by score p q true e = pairs_by score [] p q true e
-none_by score p q false e = pairs_by score [] p q false e
-
-pub joined_none : (score p q : ℕ) → joined (tally score []) p q ≡ tally (joined_score score p q) []
-joined_none score p q = ap (tally (joined_score score p q)) (none_by score p q (eqb (behind score) p) refl)
-
--- What the score becomes: its runs, and the number behind the last.
-pub record Becomes (score p q score' : ℕ) : Type 0 where
-  pub last : behind score' ≡ q
-  pub least : runs_in score ≤ runs_in score'
-  pub most : runs_in score' ≤ runs_in score + 1
-  pub begun : no_runs ≤ score → no_runs ≤ score'
-
-becomes_by : (score p q : ℕ) (t : Bool) → eqb (behind score) p ≡ t → p < q → q < past_32_bits
-    → Becomes score p q (cond t (score + (q - p)) ((runs_in score + 1) * past_32_bits + q))
-becomes_by score p q true e l m =
-    let is = eqb-true (behind score) p e in
-    record { last = omega arith; least = omega arith; most = omega arith; begun = λ b. omega arith }
-becomes_by score p q false e l m = record { last = omega arith; least = omega arith; most = omega arith; begun = λ b. omega arith }
-
-pub becomes : (score p q : ℕ) → p < q → q < past_32_bits → Becomes score p q (joined_score score p q)
-becomes score p q l m =
-    subst⁻¹ (Becomes score p q) (score_by score p q (eqb (behind score) p) refl) (becomes_by score p q (eqb (behind score) p) refl l m)
+-- as the code has it, which begins a run where they do not
+pub joined_told : (t : Tally) (p q : ℕ) (other : Bool) → other ≡ not (follows t p) → ended (cond other (begun t p) t) q ≡ joined t p q
+unfolding joined
+joined_told t p q other e = ap (λ b. ended (cond b (begun t p) t) q) e ∙ by (follows t p)
+  where
+    by : (same : Bool) → ended (cond (not same) (begun t p) t) q ≡ ended (cond same t (begun t p)) q
+    by true = refl
+    by false = refl
 
 -- a stretch, and the one right behind it
-on_by : (t : Tally) (p q r : ℕ) (same : Bool) → eqb (behind t.score) p ≡ same → p < q → q < r → r < past_32_bits
-    → joined (joined t p q) q r ≡ joined t p r
-on_by t p q r true e l m n =
-    let is = eqb-true (behind t.score) p e in
-    let k = 2 * runs_in t.score - 1 in
-    let next : behind (t.score + (q - p)) ≡ q = omega arith in
-    let sum : t.score + (q - p) + (r - q) ≡ t.score + (r - p) = omega arith in
-    let place : 2 * runs_in (t.score + (q - p)) - 1 ≡ k = omega arith in
-    ap (λ s. joined s q r) (joined_by t p q true e)
-    ∙ joined_by (tally (t.score + (q - p)) (set t.pairs k (q - 1))) q r true (eq-eqb _ q next)
-    ∙ ap₂ tally sum (ap (λ i. set (set t.pairs k (q - 1)) i (r - 1)) place ∙ set-set t.pairs k (q - 1) (r - 1))
-    ∙ sym (joined_by t p r true e)
-on_by t p q r false e l m n =
-    let k = 2 * runs_in t.score in
-    let score = (runs_in t.score + 1) * past_32_bits + q in
-    let pairs = set t.pairs k p in
-    let next : behind score ≡ q = omega arith in
-    let sum : score + (r - q) ≡ (runs_in t.score + 1) * past_32_bits + r = omega arith in
-    let place : 2 * runs_in score - 1 ≡ k + 1 = omega arith in
-    ap (λ s. joined s q r) (joined_by t p q false e)
-    ∙ joined_by (tally score (set pairs (k + 1) (q - 1))) q r true (eq-eqb _ q next)
-    ∙ ap₂ tally sum (ap (λ i. set (set pairs (k + 1) (q - 1)) i (r - 1)) place ∙ set-set pairs (k + 1) (q - 1) (r - 1))
-    ∙ sym (joined_by t p r false e)
+ended_on : (t : Tally) (q r : ℕ) → joined (ended t q) q r ≡ ended t r
+ended_on t q r =
+    let k = 2 * t.count - 1 in
+    joined_by (ended t q) q r true (eq-eqb q q refl) ∙ ap (tally t.count (Some r)) (set-set t.pairs k (q - 1) (r - 1))
 
-pub joined_on : (t : Tally) (p q r : ℕ) → p < q → q < r → r < past_32_bits → joined (joined t p q) q r ≡ joined t p r
-joined_on t p q r = on_by t p q r (eqb (behind t.score) p) refl
+pub joined_on : (t : Tally) (p q r : ℕ) → joined (joined t p q) q r ≡ joined t p r
+unfolding joined
+joined_on t p q r = ended_on (cond (follows t p) t (begun t p)) q r
 
 -- a walk over two lists, one behind the other
 pub over_append : (test : Square → Bool) (t : Tally) (n : ℕ) (xs ys : List Square) → over test t n (xs ++ ys) ≡ over test (over test t n xs) (n + length xs) ys
@@ -142,68 +93,69 @@ over_none test t n (x ∷ xs) p q l s =
     (λ i m. s (suc i) (omega arith) ∙ span_none p q (suc i) (λ a b. omega arith) ∙ sym (span_none 0 0 i (λ a b. omega arith)))
 
 -- The squares at places from p on and below q are one stretch of numbers.
-pub over_stretch : (test : Square → Bool) (t : Tally) (n : ℕ) (ss : List Square) (p q : ℕ) → p < q → q ≤ length ss → n + q < past_32_bits
-    → Seen test ss p q → over test t n ss ≡ joined t (n + p) (n + q)
+pub over_stretch : (test : Square → Bool) (t : Tally) (n : ℕ) (ss : List Square) (p q : ℕ) → p < q → q ≤ length ss → Seen test ss p q
+    → over test t n ss ≡ joined t (n + p) (n + q)
 unfolding over
-over_stretch test t n [] p q l m r s = absurd (omega arith)
-over_stretch test t n (x ∷ xs) p zero l m r s = absurd (omega arith)
-over_stretch test t n (x ∷ xs) (suc p) (suc q) l m r s =
+over_stretch test t n [] p q l m s = absurd (omega arith)
+over_stretch test t n (x ∷ xs) p zero l m s = absurd (omega arith)
+over_stretch test t n (x ∷ xs) (suc p) (suc q) l m s =
     ap (λ b. over test (cond b (joined t n (n + 1)) t) (suc n) xs) (s 0 (omega arith) ∙ span_none (suc p) (suc q) 0 (λ a b. omega arith))
-    ∙ over_stretch test t (suc n) xs p q (omega arith) (omega arith) (omega arith)
+    ∙ over_stretch test t (suc n) xs p q (omega arith) (omega arith)
     (λ i k. s (suc i) (omega arith) ∙ span_same (suc p) (suc q) (suc i) p q i (λ a b. (omega arith, omega arith)) (λ a b. (omega arith, omega arith)))
     ∙ ap₂ (joined t) (omega arith) (omega arith)
-over_stretch test t n (x ∷ xs) zero (suc zero) l m r s =
+over_stretch test t n (x ∷ xs) zero (suc zero) l m s =
     ap (λ b. over test (cond b (joined t n (n + 1)) t) (suc n) xs) (s 0 (omega arith) ∙ true_span 0 1 0 (omega arith) (omega arith))
     ∙ over_none test (joined t n (n + 1)) (suc n) xs 0 0 (omega arith)
     (λ i k. s (suc i) (omega arith) ∙ span_none 0 1 (suc i) (λ a b. omega arith) ∙ sym (span_none 0 0 i (λ a b. omega arith)))
     ∙ ap (λ k. joined t k (n + 1)) (sym (add-zero n))
-over_stretch test t n (x ∷ xs) zero (suc (suc q)) l m r s =
+over_stretch test t n (x ∷ xs) zero (suc (suc q)) l m s =
     ap (λ b. over test (cond b (joined t n (n + 1)) t) (suc n) xs) (s 0 (omega arith) ∙ true_span 0 (suc (suc q)) 0 (omega arith) (omega arith))
-    ∙ over_stretch test (joined t n (n + 1)) (suc n) xs zero (suc q) (omega arith) (omega arith) (omega arith)
+    ∙ over_stretch test (joined t n (n + 1)) (suc n) xs zero (suc q) (omega arith) (omega arith)
     (λ i k. s (suc i) (omega arith)
     ∙ span_same 0 (suc (suc q)) (suc i) 0 (suc q) i (λ a b. (omega arith, omega arith)) (λ a b. (omega arith, omega arith)))
     ∙ ap₂ (joined (joined t n (n + 1))) (omega arith) (omega arith)
-    ∙ joined_on t n (n + 1) (n + suc (suc q)) (omega arith) (omega arith) (omega arith)
+    ∙ joined_on t n (n + 1) (n + suc (suc q))
     ∙ ap (λ k. joined t k (n + suc (suc q))) (sym (add-zero n))
 
--- What a walk over n numbers makes of a score.
-pub record Grows (score n size score' : ℕ) : Type 0 where
-  pub least : runs_in score ≤ runs_in score'
-  pub few : runs_in score ≤ n → runs_in score' ≤ n + size
-  pub begun : no_runs ≤ score → no_runs ≤ score'
+-- A stretch adds one run at most, and squares no more than there are.
+pub joined_few : (t : Tally) (p q : ℕ) → (joined t p q).count ≤ t.count + 1
+unfolding joined
+joined_few t p q = by (follows t p)
+  where
+    by : (same : Bool) → (ended (cond same t (begun t p)) q).count ≤ t.count + 1
+    by true = omega arith
+    by false = omega arith
 
-step_grows : (t : Tally) (n : ℕ) (b : Bool) → n + 1 < past_32_bits → Grows t.score n 1 (cond b (joined t n (n + 1)) t).score
-step_grows t n true l =
-    let is = becomes t.score n (n + 1) (omega arith) l in
-    record { least = is.least; few = λ f. let m = is.most in omega arith; begun = is.begun }
-step_grows t n false l = record { least = le_refl _; few = λ f. omega arith; begun = λ b. b }
-
-pub over_grows : (test : Square → Bool) (t : Tally) (n : ℕ) (ss : List Square) → n + length ss < past_32_bits
-    → Grows t.score n (length ss) (over test t n ss).score
+pub over_few : (test : Square → Bool) (t : Tally) (n : ℕ) (ss : List Square) → (over test t n ss).count ≤ t.count + length ss
 unfolding over
-over_grows test t n [] l = record { least = le_refl _; few = λ f. omega arith; begun = λ b. b }
-over_grows test t n (x ∷ xs) l =
-    let one = step_grows t n (test x) (omega arith) in
-    let rest = over_grows test (cond (test x) (joined t n (n + 1)) t) (suc n) xs (omega arith) in
-    let a = one.least in
-    let b = rest.least in
-    record {
-      least = omega arith;
-      few = λ f. let m = rest.few (let o = one.few f in omega arith) in omega arith;
-      begun = λ f. rest.begun (one.begun f);
-    }
+over_few test t n [] = omega arith
+over_few test t n (x ∷ xs) = by (test x) (λ u. over_few test u (suc n) xs)
+  where
+    by : (b : Bool) → ((u : Tally) → (over test u (suc n) xs).count ≤ u.count + length xs)
+        → (over test (cond b (joined t n (n + 1)) t) (suc n) xs).count ≤ t.count + suc (length xs)
+    by true rest = let one = joined_few t n (n + 1) in let all = rest (joined t n (n + 1)) in omega arith
+    by false rest = let all = rest t in omega arith
 
--- The score does not depend on the pairs.
-step_alike : (t u : Tally) (n : ℕ) (b : Bool) → t.score ≡ u.score → (cond b (joined t n (n + 1)) t).score ≡ (cond b (joined u n (n + 1)) u).score
-step_alike t u n true e = ap (λ w. joined_score w n (n + 1)) e
-step_alike t u n false e = e
+-- as many runs, whatever list their pairs are written to
+abbrev pub bare : Tally → Tally
+bare t = tally t.count t.behind []
 
-pub scores_alike : (test : Square → Bool) (t u : Tally) (n : ℕ) (ss : List Square) → t.score ≡ u.score → (over test t n ss).score ≡ (over test u n ss).score
+joined_bare : (t : Tally) (p q : ℕ) → bare (joined t p q) ≡ joined (bare t) p q
+unfolding joined
+joined_bare t p q = by (follows t p)
+  where
+    by : (same : Bool) → bare (ended (cond same t (begun t p)) q) ≡ ended (cond same (bare t) (begun (bare t) p)) q
+    by true = refl
+    by false = refl
+
+pub over_bare : (test : Square → Bool) (t : Tally) (n : ℕ) (ss : List Square) → bare (over test t n ss) ≡ over test (bare t) n ss
 unfolding over
-scores_alike test t u n [] e = e
-scores_alike test t u n (x ∷ xs) e =
-    scores_alike test (cond (test x) (joined t n (n + 1)) t) (cond (test x) (joined u n (n + 1)) u) (suc n) xs (step_alike t u n (test x) e)
+over_bare test t n [] = refl
+over_bare test t n (x ∷ xs) = over_bare test (cond (test x) (joined t n (n + 1)) t) (suc n) xs ∙ ap (λ u. over test u (suc n) xs) (by (test x))
+  where
+    by : (b : Bool) → bare (cond b (joined t n (n + 1)) t) ≡ cond b (joined (bare t) n (n + 1)) (bare t)
+    by true = joined_bare t n (n + 1)
+    by false = refl
 
--- so as many runs are seen of a pane, whatever list their pairs are written to
-pub runs_alike : (p : Pane) (pairs : List ℕ) → runs_in (seen p (tally no_runs pairs) 0).score ≡ runs_of p
-runs_alike p pairs = ap (λ w. runs_in w) (scores_alike (in_pane p) (tally no_runs pairs) (tally no_runs []) 0 (curve (whole p.a p.b)) refl)
+pub runs_alike : (p : Pane) (pairs : List ℕ) → (seen p (none pairs) 0).count ≡ runs_of p
+runs_alike p pairs = ap (λ t. t.count) (over_bare (in_pane p) (none pairs) 0 (curve (whole p.a p.b)))

@@ -3,11 +3,11 @@
 // A pane has no start and no direction, as a square in a search: u along the block's run, v along its side.
 #![tactic(auto)]
 
-ghost use Rattle.std.specs.Prelude.{[], ◌≡◌, ◌-◌, ◌≤◌, ◌<◌, min};
+ghost use Rattle.std.specs.Prelude.{ℕ, true, cond, ◌≡◌, ◌≤◌, Some};
 ghost use Rattle.terms.specs.Terms.{longest_side};
 ghost use Rattle.division.specs.Division.{Part, First, Second, B, C};
-ghost use Rattle.panes.specs.Panes.{pane_in, is_whole, tally, runs_in, joined_score, joined, stretched, up_line, down_line, seen};
-ghost use Rattle.panes.specs.Panes.{Walks, Leaf, Holds, Joins, MayJoin};
+ghost use Rattle.panes.specs.Panes.{pane_in, is_whole, none, put, joined, seen};
+ghost use Rattle.panes.specs.Panes.{Walks, Leaf, Joins};
 
 // The squares of an a by b block with u from u0 on and below u1, and v from v0 on and below v1.
 #[derive(Clone, Copy)]
@@ -20,212 +20,162 @@ pub struct Pane {
     pub v1: u32,
 }
 
-// The lesser of two.
-fn lesser(x: u32, y: u32) -> u32
-    ensures { result ≡ min x y }
-{
-    if x < y { x } else { y }
-}
-
-// What is left of x without y, or nothing.
-fn left_of(x: u32, y: u32) -> u32
-    ensures { result ≡ x - y }
-{
-    if x < y { 0 } else { x - y }
-}
-
-// The pane as each part has it.
-pub fn in_first(p: Pane) -> Pane
-    requires { (2 ≤ p.a) × (p.a ≤ longest_side) }
-    ensures { result ≡ pane_in First p }
-{
-    let e = division::even_half(p.a);
-    Pane {
-        a: e,
-        b: p.b,
-        u0: p.u0,
-        u1: lesser(p.u1, e),
-        v0: p.v0,
-        v1: p.v1,
-    }
-}
-
-pub fn in_second(p: Pane) -> Pane
-    requires { (2 ≤ p.a) × (p.a ≤ longest_side) }
-    ensures { result ≡ pane_in Second p }
-{
-    let e = division::even_half(p.a);
-    Pane {
-        a: p.a - e,
-        b: p.b,
-        u0: left_of(p.u0, e),
-        u1: left_of(p.u1, e),
-        v0: p.v0,
-        v1: p.v1,
-    }
-}
-
-pub fn in_a(p: Pane) -> Pane
-    requires { p.b ≤ longest_side }
-    ensures { result ≡ pane_in Part.A p }
-{
-    let e = division::even_half(p.b);
-    let m = p.a / 2;
-    Pane {
-        a: e,
-        b: m,
-        u0: p.v0,
-        u1: lesser(p.v1, e),
-        v0: p.u0,
-        v1: lesser(p.u1, m),
-    }
-}
-
-pub fn in_b(p: Pane) -> Pane
-    requires { (2 ≤ p.b) × (p.b ≤ longest_side) }
-    ensures { result ≡ pane_in B p }
-{
-    let e = division::even_half(p.b);
-    Pane {
-        a: p.a,
-        b: p.b - e,
-        u0: p.u0,
-        u1: p.u1,
-        v0: left_of(p.v0, e),
-        v1: left_of(p.v1, e),
-    }
-}
-
-pub fn in_c(p: Pane) -> Pane
-    requires { (p.u1 ≤ p.a) × (p.b ≤ longest_side) }
-    ensures { result ≡ pane_in C p }
-{
-    let e = division::even_half(p.b);
-    let n = p.a - p.a / 2;
-    Pane {
-        a: e,
-        b: n,
-        u0: left_of(e, p.v1),
-        u1: left_of(e, p.v0),
-        v0: p.a - p.u1,
-        v1: lesser(left_of(p.a, p.u0), n),
-    }
-}
-
-// Whether a pane is its whole block.
-pub fn is_whole(p: Pane) -> bool
-    ensures { result ≡ is_whole p }
-{
-    if p.u0 == 0 {
-        if p.v0 == 0 {
-            if p.u1 == p.a {
-                return p.v1 == p.b;
-            }
+impl Pane {
+    // The pane as each part has it.
+    pub fn in_first(self) -> Pane
+        requires { (2 ≤ self.a) × (self.a ≤ longest_side) }
+        ensures { result ≡ pane_in First self }
+    {
+        let e = division::even_half(self.a);
+        Pane {
+            a: e,
+            u1: self.u1.min(e),
+            ..self
         }
     }
-    false
-}
 
-// A score has how many runs there are so far, and the number behind the last. That of no runs has for it a number that no square has.
-pub const NO_RUNS: u64 = 4294967295;
-
-// How many runs a score has.
-pub fn runs_in(score: u64) -> u32
-    ensures { result ≡ runs_in score }
-{
-    (score / terms::PAST_32_BITS) as u32
-}
-
-// The score with the numbers from p on and below q taken up.
-pub fn join(score: u64, p: u32, q: u32) -> u64
-    requires { Joins score p q }
-    ensures { result ≡ joined_score score p q }
-{
-    if score % terms::PAST_32_BITS == p as u64 {
-        return score + (q - p) as u64;
+    #[tactic(auto, using(division::proofs::Rules::halves))]
+    pub fn in_second(self) -> Pane
+        requires { (2 ≤ self.a) × (self.a ≤ longest_side) }
+        ensures { result ≡ pane_in Second self }
+    {
+        let e = division::even_half(self.a);
+        Pane {
+            a: self.a - e,
+            u0: self.u0.saturating_sub(e),
+            u1: self.u1.saturating_sub(e),
+            ..self
+        }
     }
-    (score / terms::PAST_32_BITS + 1) * terms::PAST_32_BITS + q as u64
-}
 
-// The same, and the pair of numbers written: only its last where the run is lengthened.
-pub fn write(runs: &mut [u32], score: u64, p: u32, q: u32) -> u64
-    requires { Joins score p q × Holds (joined_score score p q) runs.old }
-    ensures { tally result runs.new ≡ joined (tally score runs.old) p q }
-{
-    let at = 2 * (score / terms::PAST_32_BITS) as usize;
-    if score % terms::PAST_32_BITS == p as u64 {
-        runs[at - 1] = q - 1;
-        return join(score, p, q);
+    pub fn in_a(self) -> Pane
+        requires { self.b ≤ longest_side }
+        ensures { result ≡ pane_in Part.A self }
+    {
+        let e = division::even_half(self.b);
+        let m = self.a / 2;
+        Pane {
+            a: e,
+            b: m,
+            u0: self.v0,
+            u1: self.v1.min(e),
+            v0: self.u0,
+            v1: self.u1.min(m),
+        }
     }
-    runs[at] = p;
-    runs[at + 1] = q - 1;
-    join(score, p, q)
-}
 
-// The numbers from `from` on and below `to`; none where they are one.
-#[derive(Clone, Copy)]
-struct Stretch {
-    from: u32,
-    to: u32,
-}
+    #[tactic(auto, using(division::proofs::Rules::halves))]
+    pub fn in_b(self) -> Pane
+        requires { (2 ≤ self.b) × (self.b ≤ longest_side) }
+        ensures { result ≡ pane_in B self }
+    {
+        let e = division::even_half(self.b);
+        Pane {
+            b: self.b - e,
+            v0: self.v0.saturating_sub(e),
+            v1: self.v1.saturating_sub(e),
+            ..self
+        }
+    }
 
-// A pane of a block 2 wide and 2 or 3 deep, whose squares go up its side and down again: what is seen of it on each way.
-fn upwards(p: Pane, n: u32) -> Stretch
-    requires { Leaf p n }
-    ensures { result ≡ up_line p n }
-{
-    Stretch {
-        from: n + p.v0,
-        to: n + division::either(p.u0 == 0, p.v1, p.v0),
+    pub fn in_c(self) -> Pane
+        requires { (self.u1 ≤ self.a) × (self.b ≤ longest_side) }
+        ensures { result ≡ pane_in C self }
+    {
+        let e = division::even_half(self.b);
+        let n = self.a - self.a / 2;
+        Pane {
+            a: e,
+            b: n,
+            u0: e.saturating_sub(self.v1),
+            u1: e.saturating_sub(self.v0),
+            v0: self.a - self.u1,
+            v1: self.a.saturating_sub(self.u0).min(n),
+        }
+    }
+
+    // Whether a pane is its whole block.
+    pub fn is_whole(self) -> bool
+        ensures { result ≡ is_whole self }
+    {
+        self.u0 == 0 && self.v0 == 0 && self.u1 == self.a && self.v1 == self.b
     }
 }
 
-fn downwards(p: Pane, n: u32) -> Stretch
-    requires { Leaf p n }
-    ensures { result ≡ down_line p n }
-{
-    let last = 2 * p.b;
-    Stretch {
-        from: n + (last - p.v1),
-        to: n + (last - division::either(p.u1 == 2, p.v0, p.v1)),
+// Numbers taken up into runs: how many runs there are so far, the number behind the last, and their pairs in a slice, each as far as it has room. So runs are
+// counted by taking them up into an empty one.
+#[derive(Drop)]
+pub struct Runs<'a> {
+    pairs: &'a mut [u32],
+    count: u32,
+    behind: Option<u32>,
+    // A last run is there if there is a number behind it.
+    ghost begun: { (end : ℕ) → behind ≡ Some end → 1 ≤ count },
+}
+
+impl<'a> Runs<'a> {
+    ghost use Rattle.panes.specs.Told.{told};
+
+    pub fn new(pairs: &'a mut [u32]) -> Runs<'a>
+        ensures told { told result ≡ none pairs.old }
+        ensures same_slice { result.pairs.ghost_name ≡ pairs.entry.ghost_name }
+    {
+        Runs {
+            pairs,
+            count: 0,
+            behind: None,
+        }
     }
-}
 
-// The score with a stretch taken up, if it has a number.
-fn join_some(score: u64, s: Stretch) -> u64
-    requires { MayJoin score s }
-    ensures { tally result [] ≡ stretched (tally score []) s }
-{
-    if s.from < s.to {
-        return join(score, s.from, s.to);
+    pub fn count(&self) -> u32
+        ensures { result ≡ self.now.count }
+    {
+        self.count
     }
-    score
-}
 
-// The same, and written.
-fn write_some(runs: &mut [u32], score: u64, s: Stretch) -> u64
-    requires { MayJoin score s × Holds (stretched (tally score runs.old) s).score runs.old }
-    ensures { tally result runs.new ≡ stretched (tally score runs.old) s }
-{
-    if s.from < s.to {
-        return write(runs, score, s.from, s.to);
+    // Writes a number of a pair, if its place is there. By the index: what is left behind `get_mut` of a field is not known where there is a ghost field too.
+    #[tactic(auto, using(std::proofs::lemmas::List::set_past))]
+    fn put(&mut self, at: usize, number: u32)
+        ensures told { told self.new ≡ put (told self.old) at number }
+        ensures same_slice { self.new.pairs.ghost_name ≡ self.old.pairs.ghost_name }
+    {
+        if at < self.pairs.len() {
+            self.pairs[at] = number;
+        }
     }
-    score
-}
 
-// A pane of a block 2 wide and 2 or 3 deep, at once: most of a window's border lies in one.
-pub fn count_leaf(p: Pane, n: u32, score: u64) -> u64
-    requires { Walks p n score × Leaf p n }
-    ensures { tally result [] ≡ seen p (tally score []) n }
-{
-    let up = join_some(score, upwards(p, n));
-    join_some(up, downwards(p, n))
-}
+    // Takes up the numbers from `from` on and below `to`: they lengthen the last run where they follow it, and are a new run where they do not.
+    pub fn join(&mut self, from: u32, to: u32)
+        requires { Joins self.old.count from to }
+        ensures told { told self.new ≡ joined (told self.old) from to }
+        ensures same_slice { self.new.pairs.ghost_name ≡ self.old.pairs.ghost_name }
+    {
+        if self.behind != Some(from) {
+            self.put(2 * self.count as usize, from);
+            self.count += 1;
+        }
+        self.put(2 * self.count as usize - 1, to - 1);
+        self.behind = Some(to);
+    }
 
-pub fn write_leaf(runs: &mut [u32], p: Pane, n: u32, score: u64) -> u64
-    requires { Walks p n score × Leaf p n × Holds (seen p (tally score runs.old) n).score runs.old }
-    ensures { tally result runs.new ≡ seen p (tally score runs.old) n }
-{
-    let up = write_some(runs, score, upwards(p, n));
-    write_some(runs, up, downwards(p, n))
+    // The same, if they are seen.
+    fn join_if(&mut self, seen: bool, from: u32, to: u32)
+        requires { seen ≡ true → Joins self.old.count from to }
+        ensures told { told self.new ≡ cond seen (joined (told self.old) from to) (told self.old) }
+        ensures same_slice { self.new.pairs.ghost_name ≡ self.old.pairs.ghost_name }
+    {
+        if seen {
+            self.join(from, to);
+        }
+    }
+
+    // Takes up a pane of a block 2 wide and 2 or 3 deep, whose squares go up its side and down again: most of a window's border lies in one.
+    pub fn join_leaf(&mut self, p: Pane, n: u32)
+        requires { Walks p n self.old.count × Leaf p n }
+        ensures told { told self.new ≡ seen p (told self.old) n }
+        ensures same_slice { self.new.pairs.ghost_name ≡ self.old.pairs.ghost_name }
+    {
+        self.join_if(p.u0 == 0, n + p.v0, n + p.v1);
+        self.join_if(p.u1 == 2, n + (2 * p.b - p.v1), n + (2 * p.b - p.v0));
+    }
 }

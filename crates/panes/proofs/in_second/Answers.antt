@@ -1,9 +1,0 @@
--- `panes::in_second` meets its contract: the pane counted from the even half of the run on.
-use Rattle.std.proofs.Common.{arith}
-use Rattle.division.proofs.Rules.{halves}
-use Rattle.panes.proofs.in_second.Goals as goal
-
-pub overflow_sub-result : goal.overflow_sub-result
-overflow_sub-result c =
-    let half = (halves c.args.p.a c.requires.0).less in
-    omega arith
