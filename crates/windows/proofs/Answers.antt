@@ -3,8 +3,7 @@
 use mathlib.Core.Bool.{Bool, true, false, not, ◌&&◌, cond, and-false, and-eq-true_iff}
 use mathlib.Core.List.{List, [], ◌∷◌}
 use mathlib.Core.Path.{◌≡◌, refl, sym, ap, ap₂, subst, ◌∙◌}
-use Prim.Native.Nat.{ℕ, ◌+◌, ◌*◌, ◌/◌, ◌≤◌, ◌<◌}
-use native.Mathlib.Nat.{le_refl, mul-le-mul}
+use Prim.Native.Nat.{ℕ, ◌+◌, ◌/◌, ◌≤◌, ◌<◌}
 use native.Mathlib.Omega.{arith}
 use borrow.Author.Tests.{lt-ltb, le-ltb, le-leb, lt-leb, leb-true, leb-false, ltb-true}
 use lib.Dec.{leb, ltb, eqb}
@@ -12,11 +11,11 @@ use lib.IntN.{pos, ◌-ℤ◌}
 use lib.ListN.{length}
 use lib.Signed.{le_z}
 use Rattle.terms.specs.declared.Area.{Area}
-use Rattle.terms.specs.declared.Admission.TheVariants.{Granted, Refused}
+use Rattle.std.specs.Prelude.{Err}
 use Rattle.terms.specs.declared.Refusal.{Refusal}
 use Rattle.terms.specs.declared.Refusal.TheVariants.{NoRoom, TooDeep}
-use Rattle.terms.specs.Terms.{longest_side, most_blocks, accepted, grid_accepted, below, Figures, answered, refused, refused_with}
-use Rattle.terms.specs.Guards.{◌else◌, ◌telling◌, admitted, guarded, first}
+use Rattle.terms.specs.Terms.{most_blocks, accepted, grid_accepted, below, Figures, answered, refused, refused_with}
+use Rattle.terms.specs.Guards.{◌else◌, ◌telling◌, granted, admitted, guarded, first}
 use Rattle.terms.proofs.Limits.{limits, all_accepted, grid_passed}
 use Rattle.terms.proofs.Refusals.{refusal_not_0}
 use Rattle.terms.proofs.Guards.{Passed, passed, refused_first, granted_first}
@@ -24,25 +23,16 @@ use Rattle.terms.proofs.Places.{moved_order, below_by, placed}
 use Rattle.division.specs.Division.{whole, curve, blocks_holding, count}
 use Rattle.division.proofs.Blocks.{at_most_54}
 use Rattle.panes.specs.declared.Pane.{Pane}
-use Rattle.panes.specs.Panes.{pane_at, in_span, in_pane, Tally, tally, no_runs, runs_in, over, seen, runs_of, pairs_into, Walks, Opens}
-use Rattle.panes.proofs.PartsSeen.{curve_long}
+use Rattle.panes.specs.Panes.{pane_at, in_span, in_pane, Tally, none, over, seen, runs_of, pairs_into}
 use Rattle.windows.specs.declared.Window.{Window}
 use Rattle.windows.specs.declared.Corners.{Corners}
-use Rattle.windows.specs.Windows.{in_window, window_runs, some_deep, old_corners, runs_at, corners_inside, window_guards}
+use Rattle.windows.specs.Windows.{in_window, window_runs, some_deep, old_corners, runs_at, window_guards}
 use Rattle.windows.specs.Windows.{runs_for_window_at, written, slice_after_at}
-use Rattle.windows.specs.Within.{old_corners_inside, Lies, within_figures, within_slice}
+use Rattle.windows.specs.Within.{Lies, within_figures, within_slice}
 use Rattle.windows.proofs.CountedRuns.{counted_runs, written_runs}
 
--- the test on the old corners is the definition's, in an area within the limits
-pub inside_told : (area : Area) (v : Window) → accepted area.w area.h ≡ true
-    → old_corners_inside area.w area.h (old_corners area v) ≡ corners_inside area v
-inside_told area v ok =
-    let most = limits area.w area.h ok in
-    ap₂ ◌&&◌ (ap₂ ◌&&◌ (below_by (v.x0 -ℤ area.ox) area.w most.w_most) (below_by (v.y0 -ℤ area.oy) area.h most.h_most))
-    (ap₂ ◌&&◌ (below_by (v.x1 -ℤ area.ox) area.w most.w_most) (below_by (v.y1 -ℤ area.oy) area.h most.h_most))
-
 -- a window that is granted lies in its area
-module _ (area : Area) (v : Window) (slice : List ℕ) (e : admitted (first 5 (window_guards area v slice)) ≡ Granted) where
+module _ (area : Area) (v : Window) (slice : List ℕ) (e : admitted (first 5 (window_guards area v slice)) ≡ granted) where
   tests : Passed (first 5 (window_guards area v slice))
   tests = passed (first 5 (window_guards area v slice)) e
 
@@ -74,36 +64,6 @@ module _ (area : Area) (v : Window) (slice : List ℕ) (e : admitted (first 5 (w
 abbrev pub pane_of : (w h : ℕ) → Corners → Pane
 pane_of w h v = pane_at w h v.x0 (v.x1 + 1) v.y0 (v.y1 + 1)
 
-module _ {w h : ℕ} {v : Corners} (lies : Lies w h v) where
-  area_limit : w * h < no_runs
-  area_limit = let most : w * h ≤ longest_side * longest_side = mul-le-mul lies.w_limit lies.h_limit in omega arith
-
-  pub window_walks : Walks (pane_of w h v) 0 no_runs
-  window_walks =
-      let l = lies.in_width in
-      let m = lies.in_height in
-      let all = area_limit in
-      record {
-        a_least = omega arith;
-        b_least = omega arith;
-        a_limit = lies.w_limit;
-        b_limit = lies.h_limit;
-        u_limit = omega arith;
-        v_limit = omega arith;
-        room = omega arith;
-        begun = le_refl no_runs;
-        few = omega arith;
-      }
-
-  pub window_opens : Opens (pane_of w h v)
-  window_opens = let l = lies.along in let m = lies.across in record { along = omega arith; across = omega arith }
-
-  all_long : length (curve (whole w h)) ≤ no_runs
-  all_long =
-      let long = curve_long w h window_walks.a_least window_walks.b_least in
-      let all = area_limit in
-      omega arith
-
 -- up to an end, and below the number behind it
 up_to : (from to i : ℕ) → in_span from (to + 1) i ≡ leb from i && leb i to
 up_to from to i = ap (λ b. leb from i && b) (by (leb i to) refl)
@@ -116,27 +76,18 @@ window_test : (w h : ℕ) (v : Corners) → in_pane (pane_of w h v) ≡ in_windo
 unfolding in_pane in_window
 window_test w h v = λ i s. up_to v.x0 v.x1 s.x i && up_to v.y0 v.y1 s.y i
 
-module _ {w h : ℕ} {v : Corners} (lies : Lies w h v) where
+module _ (w h : ℕ) (v : Corners) where
   window_seen : (t : Tally) → seen (pane_of w h v) t 0 ≡ over (in_window v) t 0 (curve (whole w h))
   window_seen t = ap (λ test. over test t 0 (curve (whole w h))) (window_test w h v)
 
   -- the walks count and write the definition's runs
-  seen_many : runs_of (pane_of w h v) ≡ length (window_runs w h v)
+  pub seen_many : runs_of (pane_of w h v) ≡ length (window_runs w h v)
   unfolding window_runs
-  seen_many = ap (λ t. runs_in t.score) (window_seen (tally no_runs [])) ∙ counted_runs (in_window v) (curve (whole w h)) [] (all_long lies)
+  seen_many = ap (λ t. t.count) (window_seen (none [])) ∙ counted_runs (in_window v) (curve (whole w h)) []
 
-  pub counted_is : {count : ℕ} → count ≡ runs_of (pane_of w h v) → count ≡ length (window_runs w h v)
-  counted_is e = e ∙ seen_many
-
-  module _ (l : List ℕ) {count : ℕ} (is : count ≡ runs_of (pane_of w h v)) (room : count ≤ length l / 2) where
-    pub window_holds : 2 * runs_of (pane_of w h v) ≤ length l
-    window_holds = omega arith
-
-    pub written_is : {last : List ℕ} → last ≡ pairs_into (pane_of w h v) l → last ≡ written (window_runs w h v) l
-    unfolding window_runs
-    written_is e =
-        let many = seen_many in
-        e ∙ ap (λ t. t.pairs) (window_seen (tally no_runs l)) ∙ written_runs (in_window v) (curve (whole w h)) l (all_long lies) (omega arith)
+  pub written_is : (l : List ℕ) → length (window_runs w h v) ≤ length l / 2 → pairs_into (pane_of w h v) l ≡ written (window_runs w h v) l
+  unfolding window_runs
+  written_is l room = ap (λ t. t.pairs) (window_seen (none l)) ∙ written_runs (in_window v) (curve (whole w h)) l (omega arith)
 
 -- a window in its area, without room and with it
 module _ (w h : ℕ) (v : Corners) (slice : List ℕ) {count : ℕ} (is : count ≡ length (window_runs w h v)) where
@@ -176,14 +127,14 @@ module _ (area : Area) (v : Window) (slice : List ℕ) where
   values : List ℕ
   values = length (runs_at area v) ∷ []
 
-  pub refused_told_at : (r : Refusal) → admitted (first 5 (window_guards area v slice)) ≡ Refused r
+  pub refused_told_at : (r : Refusal) → admitted (first 5 (window_guards area v slice)) ≡ Err r
       → (refused r 1 ≡ runs_for_window_at area v slice) × (slice ≡ slice_after_at area v slice)
   unfolding runs_for_window_at slice_after_at values
   refused_told_at r e =
       let is : refused r 1 ≡ runs_for_window_at area v slice = refused_first 5 (window_guards area v slice) 1 values refl r e in
       (is, sym (ap (λ f. cond (eqb f.refusal 0) (written (runs_at area v) slice) slice) (sym is) ∙ rw (refusal_not_0 r) refl))
 
-  module _ (e : admitted (first 5 (window_guards area v slice)) ≡ Granted) where
+  module _ (e : admitted (first 5 (window_guards area v slice)) ≡ granted) where
     figures_within : within_figures area.w area.h (old_corners area v) slice ≡ runs_for_window_at area v slice
     unfolding runs_for_window_at values
     figures_within =

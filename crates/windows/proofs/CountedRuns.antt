@@ -3,17 +3,17 @@
 use mathlib.Core.Bool.{Bool, true, false, cond}
 use mathlib.Core.List.{List, [], ◌∷◌, ◌++◌}
 use mathlib.Core.Path.{◌≡◌, refl, sym, ap, ap₂, ◌∙◌}
-use Prim.Native.Nat.{ℕ, suc, ◌+◌, ◌-◌, ◌*◌, ◌≤◌, ◌<◌}
+use Prim.Native.Nat.{ℕ, suc, ◌+◌, ◌-◌, ◌*◌, ◌≤◌}
 use native.Mathlib.Nat.{le_refl, zero-add}
 use native.Mathlib.Omega.{arith}
 use borrow.Author.Tests.{eqb-true, eqb-false, eq-eqb, ne_eqb}
 use lib.Dec.{eqb}
 use lib.ListN.{length, drop, set, length-drop}
 use lib.Seq.{drop-drop}
-use Rattle.terms.specs.Terms.{past_32_bits}
+use Rattle.std.specs.Prelude.{Option, Some, None}
 use Rattle.division.specs.Division.{Square}
-use Rattle.panes.specs.Panes.{Tally, tally, no_runs, runs_in, behind, joined_score, joined, over}
-use Rattle.panes.proofs.Stretches.{joined_by, score_by}
+use Rattle.panes.specs.Panes.{Tally, tally, none, follows, joined, over}
+use Rattle.panes.proofs.Stretches.{joined_by, over_bare}
 use Rattle.windows.specs.Windows.{Run, run, ahead, runs_from, pairs, written}
 
 -- a run put ahead of runs, as a number is
@@ -96,17 +96,20 @@ unfolding turned
 turned_length [] ss = sym (zero-add (length ss))
 turned_length (r ∷ rs) ss = turned_length rs (r ∷ ss) ∙ omega arith
 
--- the word of runs, and the slice with their pairs in front of the rest
-end_of : List Run → ℕ
-end_of [] = no_runs
-end_of (r ∷ rs) = r.last + 1
-
-word_of : List Run → ℕ
-word_of rs = length rs * past_32_bits + end_of rs
+-- What is told of runs: how many, the number behind the last, and the slice with their pairs in front of the rest.
+end_of : List Run → Option ℕ
+end_of [] = None
+end_of (r ∷ rs) = Some (r.last + 1)
 
 pairs_before : List Run → List ℕ → List ℕ
 pairs_before [] l = l
 pairs_before (r ∷ rs) l = pairs_before rs (r.first ∷ r.last ∷ l)
+
+abbrev state : List Run → List ℕ → Tally
+state rs pairs = tally (length rs) (end_of rs) pairs
+
+abbrev tallied : List Run → List ℕ → Tally
+tallied rs l = state rs (pairs_before rs (drop (2 * length rs) l))
 
 pairs_turned : (rs ss : List Run) (l : List ℕ) → pairs_before rs (pairs ss ++ l) ≡ pairs (turned rs ss) ++ l
 unfolding pairs_before turned pairs
@@ -122,33 +125,18 @@ set_before (r ∷ rs) l k v =
     on : 2 * suc (length rs) + k ≡ 2 * length rs + suc (suc k)
     on = omega arith
 
-abbrev tallied : List Run → List ℕ → Tally
-tallied rs l = tally (word_of rs) (pairs_before rs (drop (2 * length rs) l))
-
--- what a word of runs says
-word_runs : (rs : List Run) → end_of rs ≤ no_runs → (runs_in (word_of rs) ≡ length rs) × (behind (word_of rs) ≡ end_of rs)
-unfolding word_of
-word_runs rs l = (omega arith, omega arith)
-
--- one number more: the word
-added_word : (rs : List Run) (n : ℕ) → end_of rs ≤ no_runs → n < no_runs → joined_score (word_of rs) n (n + 1) ≡ word_of (added rs n)
-unfolding added word_of end_of
-added_word [] n l m =
-    let says = word_runs [] l in
-    let other : behind (word_of []) ≡ n → ⊥ = λ e. omega arith in
-    score_by (word_of []) n (n + 1) false (ne_eqb (behind (word_of [])) n other) ∙ omega arith
-added_word (r ∷ rs) n l m = by (eqb (r.last + 1) n) refl
+-- one number more, without pairs
+added_state : (rs : List Run) (n : ℕ) → joined (state rs []) n (n + 1) ≡ state (added rs n) []
+unfolding added end_of
+added_state [] n = joined_by (tally 0 None []) n (n + 1) false refl
+added_state (r ∷ rs) n = by (eqb (r.last + 1) n) refl
   where
-    by : (t : Bool) → eqb (r.last + 1) n ≡ t → joined_score (word_of (r ∷ rs)) n (n + 1) ≡ word_of (cond t (run r.first n ∷ rs) (run n n ∷ r ∷ rs))
-    by true e =
-        let is = eqb-true (r.last + 1) n e in
-        let says = word_runs (r ∷ rs) l in
-        score_by (word_of (r ∷ rs)) n (n + 1) true (eq-eqb (behind (word_of (r ∷ rs))) n (says.1 ∙ is)) ∙ omega arith
+    by : (t : Bool) → eqb (r.last + 1) n ≡ t
+        → joined (tally (suc (length rs)) (Some (r.last + 1)) []) n (n + 1) ≡ state (cond t (run r.first n ∷ rs) (run n n ∷ r ∷ rs)) []
+    by true e = joined_by (tally (suc (length rs)) (Some (r.last + 1)) []) n (n + 1) true e
     by false e =
-        let says = word_runs (r ∷ rs) l in
-        let runs = says.0 in
-        score_by (word_of (r ∷ rs)) n (n + 1) false (ne_eqb (behind (word_of (r ∷ rs))) n (λ f. eqb-false (r.last + 1) n e (sym says.1 ∙ f)))
-        ∙ omega arith
+        joined_by (tally (suc (length rs)) (Some (r.last + 1)) []) n (n + 1) false e
+        ∙ ap (λ k. tally k (Some (n + 1)) []) (let k : suc (length rs) + 1 ≡ suc (suc (length rs)) = omega arith in k)
 
 -- and the pairs: a new run's behind those of the runs so far, or the last number of a run that is lengthened
 two_set : (l : List ℕ) (n : ℕ) → 2 ≤ length l → set (set l 0 n) 1 n ≡ n ∷ n ∷ drop 2 l
@@ -156,128 +144,103 @@ two_set [] n r = absurd (omega arith)
 two_set (x ∷ []) n r = absurd (omega arith)
 two_set (x ∷ y ∷ l) n r = refl
 
-new_tallied : (rs : List Run) (n : ℕ) (l : List ℕ) → end_of rs ≤ no_runs → (behind (word_of rs) ≡ n → ⊥) → 2 * suc (length rs) ≤ length l
+new_tallied : (rs : List Run) (n : ℕ) (l : List ℕ) → follows (tallied rs l) n ≡ false → 2 * suc (length rs) ≤ length l
     → joined (tallied rs l) n (n + 1) ≡ tallied (run n n ∷ rs) l
-unfolding word_of end_of pairs_before
-new_tallied rs n l m other room =
-    let says = word_runs rs m in
-    let runs = says.0 in
+unfolding end_of pairs_before
+new_tallied rs n l other room =
     let rest = drop (2 * length rs) l in
     let long : length rest ≡ length l - 2 * length rs = length-drop (2 * length rs) l in
-    let sum : (runs_in (word_of rs) + 1) * past_32_bits + (n + 1) ≡ suc (length rs) * past_32_bits + (n + 1) = omega arith in
-    let first : 2 * runs_in (word_of rs) ≡ 2 * length rs + 0 = omega arith in
-    let second : 2 * runs_in (word_of rs) + 1 ≡ 2 * length rs + 1 = omega arith in
+    let more : length rs + 1 ≡ suc (length rs) = omega arith in
+    let first : 2 * length rs ≡ 2 * length rs + 0 = omega arith in
+    let second : 2 * (length rs + 1) - 1 ≡ 2 * length rs + 1 = omega arith in
     let last : n + 1 - 1 ≡ n = omega arith in
     let on : 2 * length rs + 2 ≡ 2 * suc (length rs) = omega arith in
-    joined_by (tallied rs l) n (n + 1) false (ne_eqb (behind (word_of rs)) n other)
-    ∙ ap₂ tally sum
+    joined_by (tallied rs l) n (n + 1) false other
+    ∙ ap₂ (λ k xs. tally k (Some (n + 1)) xs) more
     ((λ i. set (set (pairs_before rs rest) (first i) n) (second i) (last i))
     ∙ ap (λ xs. set xs (2 * length rs + 1) n) (set_before rs rest 0 n)
     ∙ set_before rs (set rest 0 n) 1 n
     ∙ ap (pairs_before rs) (two_set rest n (omega arith) ∙ ap (λ xs. n ∷ n ∷ xs) (drop-drop 2 (2 * length rs) l ∙ ap (λ k. drop k l) on)))
 
-longer_tallied : (r : Run) (rs : List Run) (n : ℕ) (l : List ℕ) → end_of (r ∷ rs) ≤ no_runs → r.last + 1 ≡ n
+longer_tallied : (r : Run) (rs : List Run) (n : ℕ) (l : List ℕ) → eqb (r.last + 1) n ≡ true
     → joined (tallied (r ∷ rs) l) n (n + 1) ≡ tallied (run r.first n ∷ rs) l
-unfolding word_of end_of pairs_before
-longer_tallied r rs n l m is =
-    let says = word_runs (r ∷ rs) m in
-    let runs = says.0 in
+unfolding end_of pairs_before
+longer_tallied r rs n l is =
     let rest = drop (2 * suc (length rs)) l in
-    let sum : word_of (r ∷ rs) + (n + 1 - n) ≡ suc (length rs) * past_32_bits + (n + 1) = omega arith in
-    let place : 2 * runs_in (word_of (r ∷ rs)) - 1 ≡ 2 * length rs + 1 = omega arith in
+    let place : 2 * suc (length rs) - 1 ≡ 2 * length rs + 1 = omega arith in
     let last : n + 1 - 1 ≡ n = omega arith in
-    joined_by (tallied (r ∷ rs) l) n (n + 1) true (eq-eqb (behind (word_of (r ∷ rs))) n (says.1 ∙ is))
-    ∙ ap₂ tally sum
+    joined_by (tallied (r ∷ rs) l) n (n + 1) true is
+    ∙ ap (tally (suc (length rs)) (Some (n + 1)))
     ((λ i. set (pairs_before rs (r.first ∷ r.last ∷ rest)) (place i) (last i)) ∙ set_before rs (r.first ∷ r.last ∷ rest) 1 n)
 
-added_tallied : (rs : List Run) (n : ℕ) (l : List ℕ) → end_of rs ≤ no_runs → n < no_runs → 2 * length (added rs n) ≤ length l
-    → joined (tallied rs l) n (n + 1) ≡ tallied (added rs n) l
+added_tallied : (rs : List Run) (n : ℕ) (l : List ℕ) → 2 * length (added rs n) ≤ length l → joined (tallied rs l) n (n + 1) ≡ tallied (added rs n) l
 unfolding added end_of
-added_tallied [] n l m k room =
-    let says = (word_runs [] m).1 in
-    new_tallied [] n l m (λ e. omega arith) room
-added_tallied (r ∷ rs) n l m k room = by (eqb (r.last + 1) n) refl room
+added_tallied [] n l room = new_tallied [] n l refl room
+added_tallied (r ∷ rs) n l room = by (eqb (r.last + 1) n) refl room
   where
     by : (t : Bool) → eqb (r.last + 1) n ≡ t → 2 * length (cond t (run r.first n ∷ rs) (run n n ∷ r ∷ rs)) ≤ length l
         → joined (tallied (r ∷ rs) l) n (n + 1) ≡ tallied (cond t (run r.first n ∷ rs) (run n n ∷ r ∷ rs)) l
-    by true e room = longer_tallied r rs n l m (eqb-true (r.last + 1) n e)
-    by false e room = new_tallied (r ∷ rs) n l m (λ f. eqb-false (r.last + 1) n e (sym (word_runs (r ∷ rs) m).1 ∙ f)) room
+    by true e room = longer_tallied r rs n l e
+    by false e room = new_tallied (r ∷ rs) n l e room
 
--- the end stays a number, and no run is lost
-added_end : (rs : List Run) (n : ℕ) → (end_of (added rs n) ≡ n + 1) × (length rs ≤ length (added rs n))
-unfolding added end_of
-added_end [] n = (refl, omega arith)
-added_end (r ∷ rs) n = by (eqb (r.last + 1) n)
+-- no run is lost
+added_more : (rs : List Run) (n : ℕ) → length rs ≤ length (added rs n)
+unfolding added
+added_more [] n = omega arith
+added_more (r ∷ rs) n = by (eqb (r.last + 1) n)
   where
-    by : (t : Bool) → (end_of (cond t (run r.first n ∷ rs) (run n n ∷ r ∷ rs)) ≡ n + 1)
-        × (length (r ∷ rs) ≤ length (cond t (run r.first n ∷ rs) (run n n ∷ r ∷ rs)))
-    by true = (refl, omega arith)
-    by false = (refl, omega arith)
+    by : (t : Bool) → length (r ∷ rs) ≤ length (cond t (run r.first n ∷ rs) (run n n ∷ r ∷ rs))
+    by true = omega arith
+    by false = omega arith
 
-step_end : (t : Bool) (rs : List Run) (n : ℕ) → end_of rs ≤ no_runs → n < no_runs
-    → (end_of (cond t (added rs n) rs) ≤ no_runs) × (length rs ≤ length (cond t (added rs n) rs))
-step_end true rs n l m = let is = added_end rs n in let end = is.0 in (omega arith, is.1)
-step_end false rs n l m = (l, le_refl (length rs))
-
-walked_end : (test : Square → Bool) (rs : List Run) (n : ℕ) (ss : List Square) → end_of rs ≤ no_runs → n + length ss ≤ no_runs
-    → (end_of (walked test rs n ss) ≤ no_runs) × (length rs ≤ length (walked test rs n ss))
+walked_more : (test : Square → Bool) (rs : List Run) (n : ℕ) (ss : List Square) → length rs ≤ length (walked test rs n ss)
 unfolding walked
-walked_end test rs n [] l m = (l, le_refl (length rs))
-walked_end test rs n (s ∷ ss) l m =
-    let step = step_end (test s) rs n l (omega arith) in
-    let rest = walked_end test (cond (test s) (added rs n) rs) (suc n) ss step.0 (omega arith) in
-    let a = step.1 in
-    let b = rest.1 in
-    (rest.0, omega arith)
-
--- the whole walk: its word, and with room its pairs
-walked_word : (test : Square → Bool) (rs : List Run) (t : Tally) (n : ℕ) (ss : List Square) → t.score ≡ word_of rs → end_of rs ≤ no_runs
-    → n + length ss ≤ no_runs → (over test t n ss).score ≡ word_of (walked test rs n ss)
-unfolding walked over
-walked_word test rs t n [] is l m = is
-walked_word test rs t n (s ∷ ss) is l m =
-    walked_word test (cond (test s) (added rs n) rs) (cond (test s) (joined t n (n + 1)) t) (suc n) ss (by (test s)) (step_end (test s) rs n l (omega arith)).0
-    (omega arith)
+walked_more test rs n [] = le_refl (length rs)
+walked_more test rs n (s ∷ ss) = by (test s) (λ qs. walked_more test qs (suc n) ss)
   where
-    by : (b : Bool) → (cond b (joined t n (n + 1)) t).score ≡ word_of (cond b (added rs n) rs)
-    by true = ap (λ w. joined_score w n (n + 1)) is ∙ added_word rs n l (omega arith)
-    by false = is
+    by : (t : Bool) → ((qs : List Run) → length qs ≤ length (walked test qs (suc n) ss)) → length rs ≤ length (walked test (cond t (added rs n) rs) (suc n) ss)
+    by true more = let one = added_more rs n in let rest = more (added rs n) in omega arith
+    by false more = more rs
 
-walked_tallied : (test : Square → Bool) (rs : List Run) (n : ℕ) (ss : List Square) (l : List ℕ) → end_of rs ≤ no_runs → n + length ss ≤ no_runs
-    → 2 * length (walked test rs n ss) ≤ length l → over test (tallied rs l) n ss ≡ tallied (walked test rs n ss) l
+-- the whole walk: what is told without pairs, and with room its pairs
+walked_state : (test : Square → Bool) (rs : List Run) (n : ℕ) (ss : List Square) → over test (state rs []) n ss ≡ state (walked test rs n ss) []
 unfolding walked over
-walked_tallied test rs n [] l e m room = refl
-walked_tallied test rs n (s ∷ ss) l e m room =
-    ap (λ t. over test t (suc n) ss) (by (test s) more)
-    ∙ walked_tallied test (cond (test s) (added rs n) rs) (suc n) ss l (step_end (test s) rs n e (omega arith)).0 (omega arith) room
+walked_state test rs n [] = refl
+walked_state test rs n (s ∷ ss) = ap (λ t. over test t (suc n) ss) (by (test s)) ∙ walked_state test (cond (test s) (added rs n) rs) (suc n) ss
+  where
+    by : (b : Bool) → cond b (joined (state rs []) n (n + 1)) (state rs []) ≡ state (cond b (added rs n) rs) []
+    by true = added_state rs n
+    by false = refl
+
+walked_tallied : (test : Square → Bool) (rs : List Run) (n : ℕ) (ss : List Square) (l : List ℕ) → 2 * length (walked test rs n ss) ≤ length l
+    → over test (tallied rs l) n ss ≡ tallied (walked test rs n ss) l
+unfolding walked over
+walked_tallied test rs n [] l room = refl
+walked_tallied test rs n (s ∷ ss) l room =
+    ap (λ t. over test t (suc n) ss) (by (test s) more) ∙ walked_tallied test (cond (test s) (added rs n) rs) (suc n) ss l room
   where
     more : 2 * length (cond (test s) (added rs n) rs) ≤ length l
-    more =
-        let rest = (walked_end test (cond (test s) (added rs n) rs) (suc n) ss (step_end (test s) rs n e (omega arith)).0 (omega arith)).1 in
-        omega arith
+    more = let rest = walked_more test (cond (test s) (added rs n) rs) (suc n) ss in omega arith
 
     by : (b : Bool) → 2 * length (cond b (added rs n) rs) ≤ length l
         → cond b (joined (tallied rs l) n (n + 1)) (tallied rs l) ≡ tallied (cond b (added rs n) rs) l
-    by true room = added_tallied rs n l e (omega arith) room
+    by true room = added_tallied rs n l room
     by false room = refl
 
 -- What a walk over all squares of a list comes to: as many runs as the definition has, and their pairs in front of the rest.
-module _ (test : Square → Bool) (ss : List Square) (l : List ℕ) (limit : length ss ≤ no_runs) where
+module _ (test : Square → Bool) (ss : List Square) (l : List ℕ) where
   many : length (walked test [] 0 ss) ≡ length (runs_from test 0 ss)
   many = let long = turned_length (walked test [] 0 ss) [] in let is = ap length (walked_runs test 0 ss) in omega arith
 
-  pub counted_runs : runs_in (over test (tally no_runs l) 0 ss).score ≡ length (runs_from test 0 ss)
-  unfolding word_of end_of
-  counted_runs =
-      ap runs_in (walked_word test [] (tally no_runs l) 0 ss refl (le_refl no_runs) (omega arith))
-      ∙ (word_runs (walked test [] 0 ss) (walked_end test [] 0 ss (le_refl no_runs) (omega arith)).0).0
-      ∙ many
+  pub counted_runs : (over test (none l) 0 ss).count ≡ length (runs_from test 0 ss)
+  unfolding end_of
+  counted_runs = ap (λ t. t.count) (over_bare test (none l) 0 ss ∙ walked_state test [] 0 ss) ∙ many
 
-  pub written_runs : 2 * length (runs_from test 0 ss) ≤ length l → (over test (tally no_runs l) 0 ss).pairs ≡ written (runs_from test 0 ss) l
-  unfolding word_of end_of pairs_before written pairs
+  pub written_runs : 2 * length (runs_from test 0 ss) ≤ length l → (over test (none l) 0 ss).pairs ≡ written (runs_from test 0 ss) l
+  unfolding end_of pairs_before written pairs
   written_runs room =
       let same = many in
       let rs = walked test [] 0 ss in
-      ap (λ t. t.pairs) (walked_tallied test [] 0 ss l (le_refl no_runs) (omega arith) (omega arith))
+      ap (λ t. t.pairs) (walked_tallied test [] 0 ss l (omega arith))
       ∙ pairs_turned rs [] (drop (2 * length rs) l)
       ∙ ap₂ (λ qs k. pairs qs ++ drop (2 * k) l) (walked_runs test 0 ss) same

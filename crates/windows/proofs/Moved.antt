@@ -7,15 +7,14 @@ use mathlib.Core.Path.{◌≡◌, refl, sym, ap, ap₂, subst, ◌∙◌}
 use Prim.Native.Nat.{ℕ, ◌*◌, ◌/◌, ◌≤◌, ◌<◌}
 use native.Mathlib.Nat.{zero-add}
 use native.Mathlib.Omega.{arith}
-use lib.Dec.{leb, eqb}
+use lib.Dec.{leb, ltb, eqb}
 use lib.IntN.{pos, ◌+ℤ◌}
 use lib.ListN.{length}
 use lib.Signed.{◌≤ℤ◌}
 use Rattle.terms.specs.declared.Area.{Area}
-use Rattle.terms.specs.declared.Admission.TheVariants.{Granted}
 use Rattle.terms.specs.declared.Refusal.TheVariants.{SquareOutside, TooDeep, CornersCrossed, NoRoom, OriginLimit}
 use Rattle.terms.specs.Terms.{origin_accepted, at_post, grid_accepted, distance_of, Figures, Limits}
-use Rattle.terms.specs.Guards.{Guard, ◌else◌, ◌telling◌, admitted, guarded, first}
+use Rattle.terms.specs.Guards.{Guard, ◌else◌, ◌telling◌, granted, admitted, guarded, first}
 use Rattle.terms.proofs.Limits.{limits, grid_passed, grid_guards_passed}
 use Rattle.terms.proofs.Guards.{◌and◌, alike}
 use Rattle.terms.proofs.Signs.{added_off}
@@ -26,7 +25,6 @@ use Rattle.windows.specs.declared.Window.{Window}
 use Rattle.windows.specs.declared.Corners.{Corners}
 use Rattle.windows.specs.Windows.{Run, Apart, Covered, window_runs, some_deep, old_corners, runs_at, uncrossed, corners_inside, window_guards}
 use Rattle.windows.specs.Windows.{runs_for_window_at, written, slice_after_at}
-use Rattle.windows.specs.Within.{old_corners_inside}
 use Rattle.windows.proofs.Determined.{FromTo, WindowNumber, window_apart, window_covered, covered_window, square_covered, covered_square}
 use Rattle.windows.proofs.Determined.{sentence_determines}
 
@@ -62,7 +60,7 @@ module _ (area : Area) (k : Corners) where
   order_moved : uncrossed (moved_window area k) ≡ leb k.x0 k.x1 && leb k.y0 k.y1
   order_moved = ap₂ ◌&&◌ (moved_order area.ox (pos k.x0) (pos k.x1)) (moved_order area.oy (pos k.y0) (pos k.y1))
 
-  inside_moved : corners_inside area (moved_window area k) ≡ old_corners_inside area.w area.h k
+  inside_moved : corners_inside area (moved_window area k) ≡ (ltb k.x0 area.w && ltb k.y0 area.h) && (ltb k.x1 area.w && ltb k.y1 area.h)
   inside_moved =
       rw (
         added_off area.ox (pos k.x0),
@@ -121,7 +119,7 @@ pub record LiesAt (area : Area) (v : Window) : Type 0 where
   pub end : IsSquareInside area v.x1 v.y1
 
 -- such a one passes the first five guards
-pub granted_at : (area : Area) (v : Window) (slice : List ℕ) → LiesAt area v → admitted (first 5 (window_guards area v slice)) ≡ Granted
+pub granted_at : (area : Area) (v : Window) (slice : List ℕ) → LiesAt area v → admitted (first 5 (window_guards area v slice)) ≡ granted
 granted_at area v slice lies =
     let tests = grid_guards_passed area lies.on in
     let near = lies.start in

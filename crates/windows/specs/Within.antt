@@ -1,15 +1,11 @@
 -- A window that lies in its area, and what is answered and left of it: by its old corners, without the refusals that are past then. They render no sentence of
 -- document 02.
-use Rattle.std.specs.Prelude.{Bool, ◌&&◌, cond, List, [], ◌∷◌, ℕ, ◌/◌, ◌≤◌, ◌<◌, leb, ltb, length}
+use Rattle.std.specs.Prelude.{cond, List, [], ◌∷◌, ℕ, ◌/◌, ◌≤◌, ◌<◌, leb, length}
 use Rattle.terms.specs.declared.Refusal.TheVariants.{NoRoom}
 use Rattle.terms.specs.Terms.{longest_side, Figures}
 use Rattle.terms.specs.Guards.{◌else◌, ◌telling◌, guarded}
 use Rattle.windows.specs.declared.Corners.{Corners}
 use Rattle.windows.specs.Windows.{window_runs, written}
-
--- the test of its corners
-abbrev pub old_corners_inside : (w h : ℕ) → Corners → Bool
-old_corners_inside w h v = (ltb v.x0 w && ltb v.y0 h) && (ltb v.x1 w && ltb v.y1 h)
 
 pub record Lies (w h : ℕ) (v : Corners) : Type 0 where
   pub w_limit : w ≤ longest_side

@@ -1,16 +1,18 @@
 // The numbers of a window's squares, as runs.
 #![tactic(auto)]
 
-ghost use Rattle.std.specs.Prelude.{[], ◌≡◌};
-ghost use Rattle.terms.specs.Guards.{admitted, first};
-ghost use Rattle.windows.specs.Windows.{uncrossed, old_corners, window_guards, runs_for_window_at, slice_after_at, runs_figures};
-ghost use Rattle.windows.specs.Within.{old_corners_inside, Lies, within_figures, within_slice};
+ghost use Rattle.std.specs.Prelude.{true, false, [], ◌≡◌, ◌-ℤ◌, IfSome, IfNone, IfOk, IfErr, Err};
+ghost use Rattle.terms.specs.Terms.{below, distance_of};
+ghost use Rattle.terms.specs.Guards.{granted, admitted, first};
+ghost use Rattle.windows.specs.declared.Unwritten.TheVariants.{Refused};
+ghost use Rattle.windows.specs.Windows.{uncrossed, old_corners, corners_inside, window_guards, runs_for_window_at, slice_after_at, runs_figures};
+ghost use Rattle.windows.specs.Within.{Lies, within_figures, within_slice};
 
 use panes::Pane;
-use terms::{Admission, Area, Refusal};
+use terms::{Area, Refusal};
 
 // The squares with x from x0 to x1 and y from y0 to y1, ends included, on the site grid.
-#[derive(Clone, Copy)]
+#[derive(Clone, Copy, Debug, PartialEq, Eq)]
 pub struct Window {
     pub x0: i32,
     pub y0: i32,
@@ -27,64 +29,66 @@ struct Corners {
     y1: u32,
 }
 
-// What the call answers: how many runs there are, and that they are written; or how many there are where the slice has no room for them.
-#[derive(Clone, Copy)]
-pub enum RunsAnswer {
-    Found { count: u32 },
-    Short { count: u32 },
+// Why a window's runs are not written: the slice has no room for so many, or the call is refused.
+#[derive(Clone, Copy, Debug, PartialEq, Eq)]
+pub enum Unwritten {
+    NoRoom { count: u32 },
     Refused(Refusal),
 }
 
-// Whether a window's corners are in order.
-fn is_uncrossed(window: Window) -> bool
-    ensures { result ≡ uncrossed window }
-{
-    if window.x1 < window.x0 {
-        return false;
-    }
-    window.y0 <= window.y1
-}
+impl From<Refusal> for Unwritten {
+    ghost from_gives = { λ r u. u ≡ Refused r };
 
-// The corners with the origin subtracted.
-fn corners_of(area: Area, window: Window) -> Corners
-    ensures { result ≡ old_corners area window }
-{
-    Corners {
-        x0: terms::distance(window.x0, area.ox),
-        y0: terms::distance(window.y0, area.oy),
-        x1: terms::distance(window.x1, area.ox),
-        y1: terms::distance(window.y1, area.oy),
+    fn from(r: Refusal) -> Unwritten {
+        Unwritten::Refused(r)
     }
 }
 
-// Whether both corners lie in the area. A corner before the origin is far beyond it here.
-fn lies_inside(area: Area, corners: Corners) -> bool
-    ensures { result ≡ old_corners_inside area.w area.h corners }
+// How far a place lies from the origin on, if that is below a length.
+fn within(v: i32, o: i32, length: u32) -> Option<u32>
+    ensures inside { IfSome result (λ d. (below (v -ℤ o) length ≡ true) × (d ≡ distance_of (v -ℤ o))) }
+    ensures outside { IfNone result (below (v -ℤ o) length ≡ false) }
 {
-    if area.w <= corners.x0 {
-        return false;
+    match terms::distance(v, o) {
+        Some(d) if d < length => Some(d),
+        _ => None,
     }
-    if area.h <= corners.y0 {
-        return false;
-    }
-    if area.w <= corners.x1 {
-        return false;
-    }
-    corners.y1 < area.h
 }
 
-// The area with its origin, and then the window's corners.
-fn admit(area: Area, window: Window, corners: Corners) -> Admission
-    requires { corners ≡ old_corners area window }
-    ensures { result ≡ admitted (first 5 (window_guards area window [])) }
+impl Window {
+    // Whether the corners are in order.
+    fn is_uncrossed(self) -> bool
+        ensures { result ≡ uncrossed self }
+    {
+        self.x0 <= self.x1 && self.y0 <= self.y1
+    }
+
+    // The corners counted from the area's own, if both lie in the area.
+    fn in_area(self, area: Area) -> Option<Corners>
+        ensures inside { IfSome result (λ k. (corners_inside area self ≡ true) × (k ≡ old_corners area self)) }
+        ensures outside { IfNone result (corners_inside area self ≡ false) }
+    {
+        Some(Corners {
+            x0: within(self.x0, area.ox, area.w)?,
+            y0: within(self.y0, area.oy, area.h)?,
+            x1: within(self.x1, area.ox, area.w)?,
+            y1: within(self.y1, area.oy, area.h)?,
+        })
+    }
+}
+
+// The window's corners in the area, past the guards of the area with its origin, and then of the corners.
+fn admit(area: Area, window: Window) -> Result<Corners, Refusal>
+    ensures inside { IfOk result (λ k. (admitted (first 5 (window_guards area window [])) ≡ granted) × (k ≡ old_corners area window)) }
+    ensures refused { IfErr result (λ r. admitted (first 5 (window_guards area window [])) ≡ Err r) }
 {
-    let grid = terms::admit_grid(area);
-    let order = terms::guard(grid, is_uncrossed(window), Refusal::CornersCrossed);
-    terms::guard(order, lies_inside(area, corners), Refusal::SquareOutside)
+    terms::admit_grid(area)?;
+    terms::guard(window.is_uncrossed(), Refusal::CornersCrossed)?;
+    window.in_area(area).ok_or(Refusal::SquareOutside)
 }
 
 // The runs of a window that lies in its area. They are counted first, since a slice without room for them is left as it is.
-fn runs_within(area: Area, window: Corners, runs: &mut [u32]) -> RunsAnswer
+fn runs_within(area: Area, window: Corners, runs: &mut [u32]) -> Result<u32, Unwritten>
     requires { Lies area.w area.h window }
     ensures answer { runs_figures result ≡ within_figures area.w area.h window runs.old }
     ensures runs { runs.new ≡ within_slice area.w area.h window runs.old }
@@ -99,21 +103,16 @@ fn runs_within(area: Area, window: Corners, runs: &mut [u32]) -> RunsAnswer
     };
     let count = tallies::count_runs(pane);
     if runs.len() / 2 < count as usize {
-        return RunsAnswer::Short { count: count };
+        return Err(Unwritten::NoRoom { count });
     }
-    RunsAnswer::Found {
-        count: tallies::write_runs(runs, pane),
-    }
+    Ok(tallies::write_runs(runs, pane))
 }
 
 // The runs of a window's numbers, as pairs of first and last.
-pub fn runs_for_window(area: Area, window: Window, runs: &mut [u32]) -> RunsAnswer
+pub fn runs_for_window(area: Area, window: Window, runs: &mut [u32]) -> Result<u32, Unwritten>
     ensures answer { runs_figures result ≡ runs_for_window_at area window runs.old }
     ensures runs { runs.new ≡ slice_after_at area window runs.old }
 {
-    let corners = corners_of(area, window);
-    match admit(area, window, corners) {
-        Admission::Refused(r) => RunsAnswer::Refused(r),
-        Admission::Granted => runs_within(area, corners, runs),
-    }
+    let corners = admit(area, window)?;
+    runs_within(area, corners, runs)
 }
