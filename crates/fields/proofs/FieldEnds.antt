@@ -1,43 +1,41 @@
--- A field's end, found byte by byte: what is due from the field's start is what is due from the place that is reached, until a space or the line's end.
-use mathlib.Core.List.{List}
-use mathlib.Core.Path.{◌≡◌, sym, ap, ◌∙◌}
-use Prim.Native.Nat.{ℕ, suc, ◌+◌, ◌≤◌, ◌<◌}
-use native.Mathlib.Nat.{add-zero}
+-- The bytes before the first space, as the library's `position` finds it: those up to its place, or all where there is none.
+use mathlib.Core.Bool.{Bool, true, false, cond}
+use mathlib.Core.List.{List, [], ◌∷◌}
+use mathlib.Core.Path.{◌≡◌, refl, sym, ap, ◌∙◌}
+use Prim.Native.Nat.{ℕ, suc, ◌+◌}
 use native.Mathlib.Omega.{arith}
-use borrow.Author.Tests.{eq-eqb, ne_eqb, lt-ltb, le-ltb}
-use lib.ListN.{length, get_or, drop, drop_of_length-le}
-use lib.Seq.{drop-cons}
-use Rattle.fields.specs.Reading.{up_to_space, none, field_to, field_at}
+use borrow.Author.Tests.{ltb-false}
+use lib.Dec.{ltb, eqb}
+use lib.ListN.{length, take}
+use lib.Seq.{take_all}
+use Rattle.std.specs.Prelude.{Some, None}
+use Rattle.std.specs.List.{position, position_or_len}
+use Rattle.fields.specs.Reading.{up_to_space}
 
--- where the bytes from a place on that are no space end
-abbrev pub end_from : List ℕ → ℕ → ℕ
-end_from line at = at + length (up_to_space (drop at line))
+abbrev pub is_space : ℕ → Bool
+is_space b = eqb b 32
 
-pub end_here : (line : List ℕ) (at : ℕ) → at < length line → get_or line at 0 ≡ 32 → end_from line at ≡ at
+up_to_first : (s : List ℕ) → take (position_or_len is_space s) s ≡ up_to_space s
 unfolding up_to_space
-end_here line at l space = rw (drop-cons line at 0 l) (rw (eq-eqb (get_or line at 0) 32 space) (add-zero at))
+up_to_first [] = refl
+up_to_first (b ∷ s) = by (is_space b) refl (up_to_first s)
+  where
+    by : (t : Bool) → is_space b ≡ t → take (position_or_len is_space s) s ≡ up_to_space s
+        → take (position_or_len is_space (b ∷ s)) (b ∷ s) ≡ up_to_space (b ∷ s)
+    by true e rest = rw e refl
+    by false e rest = let one : 1 + position_or_len is_space s ≡ suc (position_or_len is_space s) = omega arith in rw e (rw one (ap (λ zs. b ∷ zs) rest))
 
-pub end_on : (line : List ℕ) (at : ℕ) → at < length line → (get_or line at 0 ≡ 32 → ⊥) → end_from line (at + 1) ≡ end_from line at
-unfolding up_to_space
-end_on line at l other =
-    let on : at + 1 ≡ suc at = omega arith in
-    rw (drop-cons line at 0 l) (rw (ne_eqb (get_or line at 0) 32 other) (rw on (omega arith)))
+module _ (s : List ℕ) where
+  pub up_to : (n : ℕ) → Some n ≡ position is_space s → take n s ≡ up_to_space s
+  up_to n e = by (ltb (position_or_len is_space s) (length s)) e
+    where
+      by : (t : Bool) → Some n ≡ cond t (Some (position_or_len is_space s)) None → take n s ≡ up_to_space s
+      by true e = let same : n ≡ position_or_len is_space s = cc in ap (λ k. take k s) same ∙ up_to_first s
+      by false e = cc
 
-pub end_past : (line : List ℕ) (at : ℕ) → length line ≤ at → end_from line at ≡ at
-unfolding up_to_space
-end_past line at l = rw (drop_of_length-le line l) (add-zero at)
-
--- the laws of the end, by one name
-pub ruleset ends = (end_here, end_on, end_past)
-
--- the field, from its end
-field_is : (line : List ℕ) (at end : ℕ) → end ≡ (field_at line at).end → field_to line at end ≡ field_at line at
-unfolding field_at
-field_is line at end e = ap (field_to line at) e
-
-pub one_more :
-    (line : List ℕ) (at end : ℕ) → end ≡ (field_at line at).end → end < length line → record { start = at; end = end; next = end + 1 } ≡ field_at line at
-one_more line at end e l = sym (rw (lt-ltb end (length line) l)) ∙ field_is line at end e
-
-pub no_more : (line : List ℕ) (at end : ℕ) → end ≡ (field_at line at).end → length line ≤ end → record { start = at; end = end; next = none } ≡ field_at line at
-no_more line at end e l = sym (rw (le-ltb end (length line) l)) ∙ field_is line at end e
+  pub to_the_end : None ≡ position is_space s → s ≡ up_to_space s
+  to_the_end e = by (ltb (position_or_len is_space s) (length s)) refl e
+    where
+      by : (t : Bool) → ltb (position_or_len is_space s) (length s) ≡ t → None ≡ cond t (Some (position_or_len is_space s)) None → s ≡ up_to_space s
+      by true l e = cc
+      by false l e = sym (take_all (position_or_len is_space s) s (ltb-false (position_or_len is_space s) (length s) l)) ∙ up_to_first s

@@ -1,44 +1,44 @@
 -- How the reader finds the fields of a line: where each begins and ends, and where the next begins. Document 01, "Order lines": "The reader takes the
 -- fields of a line one at a time, left to right."
-use Rattle.std.specs.Prelude.{cond, ◌&&◌, List, [], ◌∷◌, ℕ, ◌+◌, ◌-◌, leb, ltb, eqb, length, take, drop}
-use Rattle.fields.specs.declared.Field.{Field}
+use Rattle.std.specs.Prelude.{cond, List, [], ◌∷◌, ℕ, ◌+◌, leb, eqb, length, drop, Option, Some, None}
 use Rattle.fields.specs.declared.Taken.{Taken}
-use Rattle.fields.specs.declared.Taken.TheVariants.{Two, Three, FewerOrMore}
+use Rattle.fields.specs.declared.Taken.TheVariants.{Two, Three}
 
 -- The bytes before the first space.
 unfoldable pub up_to_space : List ℕ → List ℕ
 up_to_space [] = []
 up_to_space (b ∷ bs) = cond (eqb b 32) [] (b ∷ up_to_space bs)
 
--- A place that no line has: there is no next field.
-abbrev pub none : ℕ
-none = 18446744073709551615
+-- The field that begins at a place, if the line reaches so far.
+abbrev pub field_at : (line : List ℕ) (at : ℕ) → Option (List ℕ)
+field_at line at = cond (leb at (length line)) (Some (up_to_space (drop at line))) None
 
--- The field that begins at a place.
-abbrev pub field_to : (line : List ℕ) (at end : ℕ) → Field
-field_to line at end = record { start = at; end = end; next = cond (ltb end (length line)) (end + 1) none }
+-- The place past a field and the space after it.
+abbrev pub past : (at : ℕ) → Option (List ℕ) → ℕ
+past at (Some field) = at + (length field + 1)
+past at None = at
 
-unfoldable pub field_at : (line : List ℕ) (at : ℕ) → Field
-field_at line at = field_to line at (at + length (up_to_space (drop at line)))
+-- What is taken of a line with these first four fields, as far as it has them: its two or three.
+abbrev pub taken_of : (a b c d : Option (List ℕ)) → List (List ℕ)
+taken_of (Some a) (Some b) None d = a ∷ b ∷ []
+taken_of (Some a) (Some b) (Some c) None = a ∷ b ∷ c ∷ []
+taken_of (Some a) (Some b) (Some c) (Some d) = []
+taken_of (Some a) None c d = []
+taken_of None b c d = []
 
--- A field's bytes, none where it does not lie in the line.
-unfoldable pub piece : List ℕ → Field → List ℕ
-piece line f = cond (leb f.start f.end && leb f.end (length line)) (take (f.end - f.start) (drop f.start line)) []
-
--- What is taken of a line with these first three fields: the second or the third has to end where the line ends.
-unfoldable pub taken_of : (line : List ℕ) (a b c : Field) → Taken
-taken_of line a b c = cond (eqb b.end (length line)) (Two a b) (cond (eqb c.end (length line)) (Three a b c) FewerOrMore)
-
--- The first three fields of a line, one after the other, and what is taken of it.
-unfoldable pub three_read : List ℕ → Taken
+-- The first four fields of a line, one after the other, and what is taken of it.
+abbrev pub three_read : List ℕ → List (List ℕ)
 three_read line =
     let a = field_at line 0 in
-    let b = field_at line a.next in
-    let c = field_at line b.next in
-    taken_of line a b c
+    let at_b = past 0 a in
+    let b = field_at line at_b in
+    let at_c = past at_b b in
+    let c = field_at line at_c in
+    let d = field_at line (past at_c c) in
+    taken_of a b c d
 
 -- The bytes of what is taken, none where the line has fewer fields or more.
-abbrev pub pieces : (line : List ℕ) → Taken → List (List ℕ)
-pieces line (Two first a) = piece line first ∷ piece line a ∷ []
-pieces line (Three first a b) = piece line first ∷ piece line a ∷ piece line b ∷ []
-pieces line FewerOrMore = []
+abbrev pub pieces : Option Taken → List (List ℕ)
+pieces (Some (Two word a)) = word.now ∷ a.now ∷ []
+pieces (Some (Three word a b)) = word.now ∷ a.now ∷ b.now ∷ []
+pieces None = []

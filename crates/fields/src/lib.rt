@@ -1,138 +1,73 @@
-// The fields of a line: where each begins and ends, its bytes, and a reader that takes them one at a time, left to right.
+// The fields of a line, and a reader that takes them one at a time, left to right.
 #![tactic(auto)]
 
-ghost use Rattle.std.specs.Prelude.{◌≡◌};
-ghost use Rattle.fields.specs.Reading.{field_at, piece, taken_of, three_read};
+ghost use Rattle.std.specs.Prelude.{◌≡◌, option_copied};
+ghost use Rattle.fields.specs.Reading.{up_to_space, field_at, past, pieces, three_read};
 
-// A place that no line has.
-const NOWHERE: usize = 18446744073709551615;
-
-// Where a field's bytes begin and end, and where the next field begins: at a place that no line has if there is none.
+// The fields of a line that has two or three, and each shape has as many.
 #[derive(Clone, Copy)]
-pub struct Field {
-    start: usize,
-    end: usize,
-    next: usize,
+pub enum Taken<'a> {
+    Two {
+        word: &'a [u8],
+        a: &'a [u8],
+    },
+    Three {
+        word: &'a [u8],
+        a: &'a [u8],
+        b: &'a [u8],
+    },
 }
 
-// The fields of a line that has two or three: no shape has fewer or more.
-#[derive(Clone, Copy)]
-pub enum Taken {
-    Two { word: Field, a: Field },
-    Three { word: Field, a: Field, b: Field },
-    FewerOrMore,
-}
-
-// Where the bytes from a place on that are no space end.
-#[tactic(auto, using(crate::proofs::FieldEnds::ends), unfolding(crate::specs::Reading::field_at))]
-fn end_of(line: &[u8], at: usize) -> usize
-    ensures { result ≡ (field_at line.now at).end }
+// The bytes before the first space.
+fn up_to_space(s: &[u8]) -> &[u8]
+    ensures { result.now ≡ up_to_space s.now }
 {
-    let mut end = at;
-    while end < line.len() {
-        if line[end] == b' ' {
-            return end;
-        }
-        end = end + 1;
+    match s.iter().position(|b| *b == b' ') {
+        Some(n) => &s[..n],
+        None => s,
     }
-    end
 }
 
-// The field of a line that begins at a place.
-#[tactic(auto, using(crate::proofs::FieldEnds::one_more, crate::proofs::FieldEnds::no_more))]
-fn field_at(line: &[u8], at: usize) -> Field
-    ensures { result ≡ field_at line.now at }
+// The field of a line that begins at a place, if the line reaches so far.
+fn field_at(line: &[u8], at: usize) -> Option<&[u8]>
+    ensures { option_copied result ≡ field_at line.now at }
 {
-    let end = end_of(line, at);
-    if end < line.len() {
-        return Field {
-            start: at,
-            end: end,
-            next: end + 1,
-        };
-    }
-    Field {
-        start: at,
-        end: end,
-        next: NOWHERE,
-    }
+    Some(up_to_space(line.get(at..)?))
 }
 
-// The bytes of a field, none if it does not lie in the line.
-#[tactic(auto, unfolding(crate::specs::Reading::piece))]
-pub fn bytes_of<'a>(line: &'a [u8], f: Field) -> &'a [u8]
-    ensures { result.now ≡ piece line.now f }
-{
-    let start = f.start;
-    let end = f.end;
-    if end < start {
-        return &line[..0];
-    }
-    if line.len() < end {
-        return &line[..0];
-    }
-    &line[start..end]
-}
-
-// What is taken of a line whose first three fields, as far as it has them, are a, b and c: the last of them ends where the line ends.
-#[tactic(auto, unfolding(crate::specs::Reading::taken_of))]
-fn taken_of(line: &[u8], a: Field, b: Field, c: Field) -> Taken
-    ensures { result ≡ taken_of line.now a b c }
-{
-    if b.end == line.len() {
-        return Taken::Two { word: a, a: b };
-    }
-    if c.end == line.len() {
-        return Taken::Three {
-            word: a,
-            a: b,
-            b: c,
-        };
-    }
-    Taken::FewerOrMore
-}
-
-// A reader over a line: the line and a place in it.
-#[derive(Clone, Copy)]
+// A reader over a line: the line and a place in it. The customer's document asks for this form: a thin reader with the line's bytes and a place, over a
+// function of a slice and a number.
+#[derive(Drop)]
 struct Reader<'a> {
     line: &'a [u8],
     at: usize,
 }
 
-// A reader at a line's first field.
-fn at_first<'a>(line: &'a [u8]) -> Reader<'a>
-    ensures { (result.line ≡ line.entry) × (result.at ≡ 0) }
-{
-    Reader { line, at: 0 }
-}
-
-// The field that a reader takes, at its place.
-fn field_here<'a>(r: Reader<'a>) -> Field
-    ensures { result ≡ field_at r.entry.line.now r.entry.at }
-{
-    field_at(r.line, r.at)
-}
-
-// The reader after a field.
-fn moved_past<'a>(r: Reader<'a>, f: Field) -> Reader<'a>
-    ensures { (result.line ≡ r.entry.line) × (result.at ≡ f.next) }
-{
-    Reader {
-        line: r.line,
-        at: f.next,
+impl<'a> Reader<'a> {
+    // Takes the field at the reader's place, and moves past it and the space after it.
+    fn next_field(&mut self) -> Option<&'a [u8]>
+        ensures field { option_copied result ≡ field_at self.old.line.now self.old.at }
+        ensures line { self.new.line ≡ self.old.line }
+        ensures place { self.new.at ≡ past self.old.at (field_at self.old.line.now self.old.at) }
+    {
+        let field = field_at(self.line, self.at)?;
+        self.at += field.len() + 1;
+        Some(field)
     }
 }
 
-// Takes the fields that any shape can need, one at a time from the left.
-#[tactic(auto, unfolding(crate::specs::Reading::three_read))]
-pub fn read_three(line: &[u8]) -> Taken
-    ensures { result ≡ three_read line.now }
+// Takes the fields that any shape can need, one at a time from the left, and looks whether one more is left.
+pub fn read_three(line: &[u8]) -> Option<Taken<'_>>
+    ensures { pieces result ≡ three_read line.now }
 {
-    let r = at_first(line);
-    let a = field_here(r);
-    let r = moved_past(r, a);
-    let b = field_here(r);
-    let r = moved_past(r, b);
-    let c = field_here(r);
-    taken_of(line, a, b, c)
+    let mut reader = Reader { line, at: 0 };
+    let word = reader.next_field()?;
+    let a = reader.next_field()?;
+    let Some(b) = reader.next_field() else {
+        return Some(Taken::Two { word, a });
+    };
+    if reader.next_field().is_some() {
+        return None;
+    }
+    Some(Taken::Three { word, a, b })
 }

@@ -2,22 +2,20 @@
 -- field has a few bytes and no space.
 use mathlib.Core.Bool.{Bool, true, not, ◌&&◌, and-eq-true_iff}
 use mathlib.Core.List.{List, [], ◌∷◌}
-use mathlib.Core.Option.{Option, some}
-use mathlib.Core.Path.{◌≡◌, refl, ap, subst⁻¹}
+use Rattle.std.specs.Prelude.{Option, Some}
+use mathlib.Core.Path.{◌≡◌, refl, subst⁻¹}
 use Prim.Native.Nat.{ℕ, ◌+◌, ◌≤◌}
 use native.Mathlib.Omega.{arith}
 use borrow.Author.Tests.{leb-true, ne_eqb}
 use lib.Dec.{leb, eqb}
 use lib.IntN.{ℤ, pos, negsuc, nat_abs}
 use lib.ListN.{length}
-use Rattle.words.specs.declared.Numeral as Numerals
-use Rattle.words.specs.declared.SignedNumeral as SignedNumerals
 use Rattle.words.specs.Words.{largest_number, is_digit, all_digits, numeral, Spelling}
 use Rattle.words.specs.Signed.{largest_magnitude, signed_numeral, SignedSpelling, unsigned, minus}
 use Rattle.words.proofs.Decimals.{Reads, reads}
 use Rattle.words.proofs.Spellings.{read_so, two_spellings}
 use Rattle.words.proofs.Signs.{read_signed, signed_spelt}
-use Rattle.lines.specs.Lines.{as_number, as_signed, number, signed_number, Spelt, SpeltSigned}
+use Rattle.lines.specs.Lines.{Spelt, SpeltSigned}
 
 -- Bytes none of which is a space, as a word's and a number's.
 unfoldable pub spaceless : List ℕ → Bool
@@ -30,8 +28,8 @@ pub record Filled (f : List ℕ) : Type 0 where
   pub whole : spaceless f ≡ true
 
 pub record Way {A : Type 0} (read : List ℕ → Option A) (Spelling : List ℕ → A → Type 0) : Type 0 where
-  pub says : (f : List ℕ) (n : A) → read f ≡ some n → Spelling f n
-  pub reads : (f : List ℕ) (n : A) → Spelling f n → read f ≡ some n
+  pub says : (f : List ℕ) (n : A) → read f ≡ Some n → Spelling f n
+  pub reads : (f : List ℕ) (n : A) → Spelling f n → read f ≡ Some n
   pub filled : (f : List ℕ) (n : A) → Spelling f n → Filled f
   pub few : (f : List ℕ) (n : A) → Spelling f n → length f ≤ 11
 
@@ -47,20 +45,11 @@ digits_spaceless (b ∷ f) e =
 read_spelt : (f : List ℕ) (n : ℕ) → n ≤ largest_number → Spelling f n → Reads f n
 read_spelt f n l s = reads f n (read_so f n l s)
 
--- a number that is read is the field's
-number_is : (m : Numerals.Numeral) (n : ℕ) → as_number m ≡ some n → m ≡ Numerals.TheVariants.Value n
-number_is (Numerals.TheVariants.Value k) n e = cc
-number_is Numerals.TheVariants.NoNumber n e = absurd (let z : ◌≡◌ {A = ℕ} 0 1 = cc in omega arith)
-
-signed_is : (m : SignedNumerals.SignedNumeral) (z : ℤ) → as_signed m ≡ some z → m ≡ SignedNumerals.TheVariants.Value z
-signed_is (SignedNumerals.TheVariants.Value y) z e = cc
-signed_is SignedNumerals.TheVariants.NoNumber z e = absurd (let z : ◌≡◌ {A = ℕ} 0 1 = cc in omega arith)
-
-pub plain : Way number Spelt
+pub plain : Way numeral Spelt
 plain =
     record {
-      says = λ f n e. let is = number_is (numeral f) n e in ((reads f n is).most, two_spellings f n is);
-      reads = λ f n s. ap as_number (read_so f n s.0 s.1);
+      says = λ f n e. ((reads f n e).most, two_spellings f n e);
+      reads = λ f n s. read_so f n s.0 s.1;
       filled = λ f n s. let r = read_spelt f n s.0 s.1 in record { any = r.some; whole = digits_spaceless f r.digits };
       few = λ f n s. let r = read_spelt f n s.0 s.1 in let l = r.few in omega arith;
     }
@@ -83,11 +72,11 @@ signed_short f (pos n) l (unsigned s) =
     record { filled = record { any = r.some; whole = digits_spaceless f r.digits }; few = omega arith }
 signed_short f (negsuc n) l (minus digits is s) = subst⁻¹ Short is (behind_minus digits (read_spelt digits (n + 1) (omega arith) s))
 
-pub signed : Way signed_number SpeltSigned
+pub signed : Way signed_numeral SpeltSigned
 signed =
     record {
-      says = λ f z e. signed_spelt f z (signed_is (signed_numeral f) z e);
-      reads = λ f z s. ap as_signed (read_signed f z s.0 s.1);
+      says = signed_spelt;
+      reads = λ f z s. read_signed f z s.0 s.1;
       filled = λ f z s. (signed_short f z s.0 s.1).filled;
       few = λ f z s. (signed_short f z s.0 s.1).few;
     }

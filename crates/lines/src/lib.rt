@@ -3,7 +3,7 @@
 
 mod requests;
 
-ghost use Rattle.std.specs.Prelude.{◌≡◌};
+ghost use Rattle.std.specs.Prelude.{◌≡◌, IfOk};
 ghost use Rattle.lines.specs.Lines.{begins_setting, request, asked, Says};
 
 use terms::Refusal;
@@ -12,33 +12,28 @@ use terms::Refusal;
 const MOST_BYTES: usize = 64;
 
 // What a line asks.
-#[derive(Clone, Copy)]
+#[derive(Clone, Copy, Debug, PartialEq, Eq)]
 pub enum Request {
     SetArea { w: u32, h: u32 },
     SetOrigin { ox: i32, oy: i32 },
     AskNumber { i: u32 },
     AskSquare { x: i32, y: i32 },
-    Refused(Refusal),
 }
 
 // Whether a line begins with the bytes of AREA or of ORIGIN, whatever it asks.
 pub fn begins_setting(line: &[u8]) -> bool
     ensures { result ≡ begins_setting line.now }
 {
-    if words::begins_with(line, b"AREA") {
-        return true;
-    }
-    words::begins_with(line, b"ORIGIN")
+    words::begins_with(line, b"AREA") || words::begins_with(line, b"ORIGIN")
 }
 
 // What a line asks, whatever its bytes are.
-#[tactic(auto, using(crate::proofs::Shapes::long_line))]
-pub fn request_of(line: &[u8]) -> Request
+pub fn request_of(line: &[u8]) -> Result<Request, Refusal>
     ensures figures { asked result ≡ asked (request line.now) }
-    ensures spelling { Says result line.now }
+    ensures spelling { IfOk result (λ q. Says q line.now) }
 {
     if MOST_BYTES < line.len() {
-        return Request::Refused(Refusal::LongLine);
+        return Err(Refusal::LongLine);
     }
-    requests::made_of(line, fields::read_three(line))
+    requests::made_of(fields::read_three(line))
 }

@@ -1,112 +1,99 @@
 // What a line asks by its shape: its word, and the numbers after it.
-ghost use Rattle.std.specs.Prelude.{cond, ◌||◌, ◌≡◌};
-ghost use Rattle.lines.specs.declared.Request.TheVariants.{SetArea, SetOrigin, AskNumber, AskSquare};
+ghost use Rattle.std.specs.Prelude.{◌≡◌, ℕ, List, Option};
+ghost use Rattle.words.specs.Words.{numeral};
+ghost use Rattle.words.specs.Signed.{signed_numeral};
 ghost use Rattle.fields.specs.Reading.{pieces};
-ghost use Rattle.lines.specs.Lines.{number, signed_number, is_empty, of_one, of_two, two_fields, three_fields, shaped};
+ghost use Rattle.lines.specs.Lines.{of_one, of_two, two_fields, three_fields, shaped};
 
 use crate::Request;
-use fields::{Taken, bytes_of};
+use fields::Taken;
 use terms::Refusal;
-use words::{Numeral, SignedNumeral};
 
-// What a line asks with one number after its word.
-fn with_one(a: &[u8]) -> Request
-    ensures { result ≡ of_one AskNumber a.now }
-{
-    if a.len() < 1 {
-        return Request::Refused(Refusal::WrongShape);
-    }
-    match words::numeral_of(a) {
-        Numeral::Value(i) => Request::AskNumber { i: i },
-        Numeral::NoNumber => Request::Refused(Refusal::NotANumber),
+// A number as a field holds it: without a sign, or with one.
+trait Number: Copy {
+    ghost numeral: { List ℕ → Option Self };
+
+    // The field's number, if it is one.
+    fn read(field: &[u8]) -> Option<Self>
+        ensures { result ≡ numeral field.now };
+}
+
+impl Number for u32 {
+    ghost numeral = { numeral };
+
+    fn read(field: &[u8]) -> Option<u32> {
+        words::numeral_of(field)
     }
 }
 
-// Whether one of two fields is empty. Both have to be there before either is read.
-fn is_missing(a: &[u8], b: &[u8]) -> bool
-    ensures { result ≡ (is_empty a.now || is_empty b.now) }
-{
-    if a.len() < 1 {
-        return true;
-    }
-    b.len() < 1
-}
+impl Number for i32 {
+    ghost numeral = { signed_numeral };
 
-// What a line asks with two numbers after its word.
-fn with_two(a: &[u8], b: &[u8]) -> Request
-    ensures { result ≡ of_two number SetArea a.now b.now }
-{
-    if is_missing(a, b) {
-        return Request::Refused(Refusal::WrongShape);
-    }
-    match words::numeral_of(a) {
-        Numeral::Value(w) => match words::numeral_of(b) {
-            Numeral::Value(h) => Request::SetArea { w: w, h: h },
-            Numeral::NoNumber => Request::Refused(Refusal::NotANumber),
-        },
-        Numeral::NoNumber => Request::Refused(Refusal::NotANumber),
+    fn read(field: &[u8]) -> Option<i32> {
+        words::signed_numeral_of(field)
     }
 }
 
-// The same with two numbers that may carry a minus.
-fn with_two_signed(a: &[u8], b: &[u8], sets: bool) -> Request
-    ensures { result ≡ of_two signed_number (cond sets SetOrigin AskSquare) a.now b.now }
+// The number of the one field after a word. It has to be there.
+fn one<N: Number>(a: &[u8]) -> Result<N, Refusal>
+    ensures { result ≡ of_one N.numeral (λ n. n) a.now }
 {
-    if is_missing(a, b) {
-        return Request::Refused(Refusal::WrongShape);
+    if a.is_empty() {
+        return Err(Refusal::WrongShape);
     }
-    match words::signed_numeral_of(a) {
-        SignedNumeral::Value(x) => match words::signed_numeral_of(b) {
-            SignedNumeral::Value(y) => {
-                if sets {
-                    return Request::SetOrigin { ox: x, oy: y };
-                }
-                Request::AskSquare { x: x, y: y }
-            }
-            SignedNumeral::NoNumber => Request::Refused(Refusal::NotANumber),
-        },
-        SignedNumeral::NoNumber => Request::Refused(Refusal::NotANumber),
+    N::read(a).ok_or(Refusal::NotANumber)
+}
+
+// The numbers of the two fields after a word. Both have to be there before either is read.
+fn two<N: Number>(a: &[u8], b: &[u8]) -> Result<(N, N), Refusal>
+    ensures { result ≡ of_two N.numeral (λ n m. (n, m)) a.now b.now }
+{
+    if a.is_empty() || b.is_empty() {
+        return Err(Refusal::WrongShape);
     }
+    let first = N::read(a).ok_or(Refusal::NotANumber)?;
+    let second = N::read(b).ok_or(Refusal::NotANumber)?;
+    Ok((first, second))
 }
 
 // What a line of two fields asks.
-fn two_fields(word: &[u8], a: &[u8]) -> Request
+fn two_fields(word: &[u8], a: &[u8]) -> Result<Request, Refusal>
     ensures { result ≡ two_fields word.now a.now }
 {
     if words::is_word(word, b"N") {
-        return with_one(a);
+        let i = one(a)?;
+        return Ok(Request::AskNumber { i });
     }
-    Request::Refused(Refusal::WrongShape)
+    Err(Refusal::WrongShape)
 }
 
-// What a line of three fields asks.
-fn three_fields(word: &[u8], a: &[u8], b: &[u8]) -> Request
+// What a line of three fields asks. By tests, since a `match` on the words was tried: it leaves a goal open for each byte at which a field may differ from one.
+fn three_fields(word: &[u8], a: &[u8], b: &[u8]) -> Result<Request, Refusal>
     ensures { result ≡ three_fields word.now a.now b.now }
 {
     if words::is_word(word, b"AREA") {
-        return with_two(a, b);
+        let (w, h) = two(a, b)?;
+        return Ok(Request::SetArea { w, h });
     }
     if words::is_word(word, b"ORIGIN") {
-        return with_two_signed(a, b, true);
+        let (ox, oy) = two(a, b)?;
+        return Ok(Request::SetOrigin { ox, oy });
     }
     if words::is_word(word, b"S") {
-        return with_two_signed(a, b, false);
+        let (x, y) = two(a, b)?;
+        return Ok(Request::AskSquare { x, y });
     }
-    Request::Refused(Refusal::WrongShape)
+    Err(Refusal::WrongShape)
 }
 
 // What a line asks by the fields that are taken of it.
 #[tactic(auto, unfolding(crate::specs::Lines::shaped))]
-pub(crate) fn made_of(line: &[u8], taken: Taken) -> Request
-    ensures { result ≡ shaped (pieces line.now taken) }
+pub(crate) fn made_of(taken: Option<Taken<'_>>) -> Result<Request, Refusal>
+    ensures { result ≡ shaped (pieces taken.entry) }
 {
     match taken {
-        Taken::Two { word, a } => two_fields(bytes_of(line, word), bytes_of(line, a)),
-        Taken::Three { word, a, b } => three_fields(
-            bytes_of(line, word),
-            bytes_of(line, a),
-            bytes_of(line, b),
-        ),
-        Taken::FewerOrMore => Request::Refused(Refusal::WrongShape),
+        Some(Taken::Two { word, a }) => two_fields(word, a),
+        Some(Taken::Three { word, a, b }) => three_fields(word, a, b),
+        None => Err(Refusal::WrongShape),
     }
 }

@@ -10,7 +10,7 @@ use borrow.Author.Tests.{ltb-true, ltb-false, lt-ltb, le-ltb, leb-true, le-leb, 
 use lib.Dec.{leb, ltb, eqb}
 use lib.ListN.{length, length-append, get_or, get_or-append}
 use Rattle.terms.specs.Terms.{past_32_bits}
-use Rattle.words.specs.declared.Numeral.TheVariants.{Value, NoNumber}
+use Rattle.std.specs.Prelude.{Some, None}
 use Rattle.words.specs.Words.{largest_number, is_digit, all_digits, well_begun, may_begin, value_on, value, is_number, numeral}
 use Rattle.words.specs.Decimal.{decimal_by, decimal}
 
@@ -131,7 +131,7 @@ begun_passes f e = by (eqb (length f) 10)
     by false = e
 
 -- What is printed for a number, up to the largest of the rule, is read as that number.
-pub read_back : (n : ℕ) → n ≤ largest_number → numeral (decimal n) ≡ Value n
+pub read_back : (n : ℕ) → n ≤ largest_number → numeral (decimal n) ≡ Some n
 unfolding numeral is_number
 read_back n l =
     let p = prints n in
@@ -139,7 +139,7 @@ read_back n l =
     let same = p.valued in
     let within = le-leb (value (decimal n)) largest_number (omega arith) in
     let begun = begun_passes (decimal n) (printed_begun n) in
-    rw (le-leb 1 (length (decimal n)) p.some, le-leb (length (decimal n)) 10 few, p.digits, begun, within) (ap Value same)
+    rw (le-leb 1 (length (decimal n)) p.some, le-leb (length (decimal n)) 10 few, p.digits, begun, within) (ap Some same)
 
 -- What is known of a field that is read as n.
 pub record Reads (f : List ℕ) (n : ℕ) : Type 0 where
@@ -150,12 +150,12 @@ pub record Reads (f : List ℕ) (n : ℕ) : Type 0 where
   pub valued : value f ≡ n
   pub most : n ≤ largest_number
 
-pub reads : (f : List ℕ) (n : ℕ) → numeral f ≡ Value n → Reads f n
+pub reads : (f : List ℕ) (n : ℕ) → numeral f ≡ Some n → Reads f n
 unfolding numeral is_number
 reads f n e = by (is_number f) refl e
   where
-    by : (t : Bool) → is_number f ≡ t → cond t (Value (value f)) NoNumber ≡ Value n → Reads f n
-    by false p q = absurd (let z : ◌≡◌ {A = ℕ} 0 1 = cc in omega arith)
+    by : (t : Bool) → is_number f ≡ t → cond t (Some (value f)) None ≡ Some n → Reads f n
+    by false p q = cc
     by true p q =
         let same : value f ≡ n = cc in
         let fifth = (and-eq-true_iff (leb 1 (length f) && leb (length f) 10 && all_digits f && may_begin f) (leb (value f) largest_number)).0 p in

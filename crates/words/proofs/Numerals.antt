@@ -1,123 +1,89 @@
 -- Digits read one by one: what is due of the whole field is what is due of the rest, with the value so far, which is below ten to the number of digits.
-use mathlib.Core.Bool.{Bool, true, false, not, cond, ◌&&◌, and-eq-true_iff}
-use mathlib.Core.List.{List, [], ◌∷◌}
-use mathlib.Core.Path.{◌≡◌, refl, sym, ap, subst, ◌∙◌}
+use mathlib.Core.Bool.{Bool, true, false, cond, ◌&&◌, and-eq-true_iff}
+use mathlib.Core.List.{List}
+use mathlib.Core.Path.{◌≡◌, refl, sym, ap, ◌∙◌}
 use Prim.Native.Nat.{ℕ, suc, ◌+◌, ◌-◌, ◌*◌, ◌≤◌, ◌<◌, ◌^◌}
 use native.Mathlib.Nat.{zero-lt-suc, lt_of_lt_of_le, pow-le-pow_right}
 use native.Mathlib.Omega.{arith}
-use borrow.Author.Tests.{le-leb, lt-leb, eq-eqb, ne_eqb}
-use lib.Dec.{leb, eqb}
+use borrow.Author.Tests.{le-leb, lt-leb, leb-true}
+use lib.Dec.{leb}
 use lib.ListN.{length, get_or, drop}
 use lib.Seq.{drop-cons, drop-length}
-use Rattle.terms.specs.Terms.{past_32_bits}
-use Rattle.words.specs.declared.Numeral.TheVariants.{Value, NoNumber}
-use Rattle.words.specs.Words.{largest_number, all_digits, may_begin, value_on, value, is_number, numeral}
+use Rattle.std.specs.Prelude.{Option, Some, None, Result, Ok, Err, OkIff}
+use Rattle.std.specs.Result.{result_ok}
+use Rattle.words.specs.Words.{largest_number, is_digit, all_digits, may_begin, value_on, value, is_number, numeral}
 
--- the value of digits that follow the value n, or one over the largest number if a byte is no digit
-abbrev pub due : ℕ → List ℕ → ℕ
-due n bs = cond (all_digits bs) (value_on n bs) past_32_bits
+-- the value of digits that follow the value n, unless a byte is no digit
+abbrev pub due : ℕ → List ℕ → Option ℕ
+due n bs = cond (all_digits bs) (Some (value_on n bs)) None
 
-pub due_on : (s : List ℕ) (i v : ℕ) → i < length s → 48 ≤ get_or s i 0 → get_or s i 0 ≤ 57
-    → due (v * 10 + (get_or s i 0 - 48)) (drop (i + 1) s) ≡ due v (drop i s)
-unfolding all_digits value_on
-due_on s i v l low high =
-    let on : i + 1 ≡ suc i = omega arith in
-    rw on (rw (drop-cons s i 0 l) (rw (le-leb 48 (get_or s i 0) low, le-leb (get_or s i 0) 57 high) refl))
+-- one digit more, d, at the place i
+module _ (s : List ℕ) (i v d : ℕ) (l : i < length s) (is : d ≡ get_or s i 0 - 48) (digit : is_digit (get_or s i 0) ≡ true) where
+  pub due_on : due (v * 10 + d) (drop (i + 1) s) ≡ due v (drop i s)
+  unfolding all_digits value_on
+  due_on =
+      let on : i + 1 ≡ suc i = omega arith in
+      rw on (rw (drop-cons s i 0 l) (rw digit (ap (λ n. due (v * 10 + n) (drop (suc i) s)) is)))
 
-pub due_low : (s : List ℕ) (i v : ℕ) → i < length s → get_or s i 0 < 48 → past_32_bits ≡ due v (drop i s)
+  -- a value of i digits
+  pub below_ten : v < 10 ^ i → v * 10 + d < 10 ^ (i + 1)
+  below_ten less =
+      let high = leb-true (get_or s i 0) 57 ((and-eq-true_iff (leb 48 (get_or s i 0)) (leb (get_or s i 0) 57)).0 digit).1 in
+      let on : i + 1 ≡ suc i = omega arith in
+      rw on (omega arith)
+
+pub due_other : (s : List ℕ) (i v : ℕ) → i < length s → is_digit (get_or s i 0) ≡ false → None ≡ due v (drop i s)
 unfolding all_digits
-due_low s i v l low = rw (drop-cons s i 0 l) (rw (lt-leb 48 (get_or s i 0) low) refl)
+due_other s i v l other = rw (drop-cons s i 0 l) (rw other refl)
 
-pub due_high : (s : List ℕ) (i v : ℕ) → i < length s → 48 ≤ get_or s i 0 → 57 < get_or s i 0 → past_32_bits ≡ due v (drop i s)
-unfolding all_digits
-due_high s i v l low high = rw (drop-cons s i 0 l) (rw (le-leb 48 (get_or s i 0) low, lt-leb (get_or s i 0) 57 high) refl)
-
-pub due_end : (s : List ℕ) (i v : ℕ) → i ≡ length s → v ≡ due v (drop i s)
+pub due_end : (s : List ℕ) (i v : ℕ) → i ≡ length s → Some v ≡ due v (drop i s)
 unfolding all_digits value_on
 due_end s i v e = rw (ap (λ n. drop n s) e ∙ drop-length s) refl
-
--- a value of i digits
-pub below_ten : (v d i : ℕ) → v < 10 ^ i → d ≤ 9 → v * 10 + d < 10 ^ (i + 1)
-below_ten v d i l m = let on : i + 1 ≡ suc i = omega arith in rw on (omega arith)
 
 pub ten_digits : (v i : ℕ) → v < 10 ^ i → i ≤ 10 → v < 10000000000
 ten_digits v i l m = lt_of_lt_of_le l (pow-le-pow_right (zero-lt-suc 9) m)
 
 -- the laws of what is due where a turn ends it, by one name
-pub ruleset dues = (due_low, due_high, due_end, ten_digits)
+pub ruleset dues = (due_other, due_end, ten_digits)
 
--- how a field begins
-abbrev pub begun : List ℕ → Bool
-begun s = leb 1 (length s) && may_begin s
+-- a field's length and how it begins
+abbrev pub formed : List ℕ → Bool
+formed s = leb 1 (length s) && leb (length s) 10 && may_begin s
 
-pub begun_not : (s : List ℕ) → length s < 1 → false ≡ begun s
-begun_not [] l = refl
-begun_not (b ∷ s) l = absurd (omega arith)
+-- five tests, of which the code makes the first two and the fourth at once
+by_form : (a b c d e : Bool) → (a && b && c && d && e) ≡ ((a && b && d) && (c && e))
+by_form false b c d e = refl
+by_form true false c d e = refl
+by_form true true false false e = refl
+by_form true true false true e = refl
+by_form true true true false e = refl
+by_form true true true true e = refl
 
-pub begun_single : (s : List ℕ) → 1 ≤ length s → length s < 2 → true ≡ begun s
-begun_single [] l m = absurd (omega arith)
-begun_single (b ∷ []) l m = refl
-begun_single (b ∷ c ∷ s) l m = absurd (omega arith)
-
-pub begun_ten : (s : List ℕ) → length s ≡ 10 → true ≡ begun s
-begun_ten s e = sym (rw (le-leb 1 (length s) (omega arith), eq-eqb (length s) 10 e) refl)
-
-pub begun_by : (s : List ℕ) → 2 ≤ length s → (length s ≡ 10 → ⊥) → not (eqb (get_or s 0 0) 48) ≡ begun s
-begun_by [] l other = absurd (omega arith)
-begun_by (b ∷ []) l other = absurd (omega arith)
-begun_by (b ∷ c ∷ s) l other = sym (rw (le-leb 1 (length (b ∷ c ∷ s)) (omega arith), ne_eqb (length (b ∷ c ∷ s)) 10 other) refl)
-
--- five tests of which one fails
-no_begin : (a b c d e : Bool) → (a && d) ≡ false → (a && b && c && d && e) ≡ false
-no_begin false b c d e f = refl
-no_begin true false c d e f = refl
-no_begin true true false d e f = refl
-no_begin true true true d e f = rw f
-
-no_second : (a c d e : Bool) → (a && false && c && d && e) ≡ false
-no_second true c d e = refl
-no_second false c d e = refl
-
-no_value : (a b c d e : Bool) → (c && e) ≡ false → (a && b && c && d && e) ≡ false
-no_value false b c d e f = refl
-no_value true false c d e f = refl
-no_value true true false d e f = refl
-no_value true true true false e f = refl
-no_value true true true true e f = f
-
--- a field that is no number, and one that is
+-- what the tests leave of a field
 module _ (s : List ℕ) where
-  -- the tests, and what they leave
-  tested : is_number s ≡ false → NoNumber ≡ numeral s
-  unfolding numeral
-  tested e = sym (rw e)
+  told : numeral s ≡ cond (formed s && (all_digits s && leb (value s) largest_number)) (Some (value s)) None
+  unfolding numeral is_number
+  told = ap (λ t. cond t (Some (value s)) None) (by_form (leb 1 (length s)) (leb (length s) 10) (all_digits s) (may_begin s) (leb (value s) largest_number))
 
-  pub ill_begun : begun s ≡ false → NoNumber ≡ numeral s
-  unfolding is_number
-  ill_begun e = tested (no_begin (leb 1 (length s)) (leb (length s) 10) (all_digits s) (may_begin s) (leb (value s) largest_number) e)
+  pub ill_formed : formed s ≡ false → numeral s ≡ None
+  ill_formed e = told ∙ rw e refl
 
-  pub too_long : 10 < length s → NoNumber ≡ numeral s
-  unfolding is_number
-  too_long l = tested (rw (lt-leb (length s) 10 l) (no_second (leb 1 (length s)) (all_digits s) (may_begin s) (leb (value s) largest_number)))
-
-  module _ (v : ℕ) (is : v ≡ due 0 s) where
-    over_by : (t : Bool) → all_digits s ≡ t → largest_number < v → (all_digits s && leb (value s) largest_number) ≡ false
-    over_by true e l = rw e (lt-leb (value s) largest_number (subst (λ (n : ℕ). largest_number < n) (is ∙ rw e refl) l))
-    over_by false e l = rw e refl
-
-    pub too_large : largest_number < v → NoNumber ≡ numeral s
-    unfolding is_number
-    too_large l =
-        tested (no_value (leb 1 (length s)) (leb (length s) 10) (all_digits s) (may_begin s) (leb (value s) largest_number) (over_by (all_digits s) refl l))
-
-    pub a_number : begun s ≡ true → length s ≤ 10 → v ≤ largest_number → Value v ≡ numeral s
-    unfolding numeral is_number
-    a_number well few least = by (all_digits s) refl
+  -- the code reads the digits only of a field that is formed so
+  module _ (well : formed s ≡ true) where
+    pub no_digits : None ≡ due 0 s → numeral s ≡ None
+    no_digits e = by (all_digits s) refl
       where
-        by : (t : Bool) → all_digits s ≡ t → Value v ≡ numeral s
-        by true e =
-            let same : v ≡ value s = is ∙ rw e refl in
-            let both = (and-eq-true_iff (leb 1 (length s)) (may_begin s)).0 well in
-            ap Value same ∙ sym (rw
-            (both.0, both.1, le-leb (length s) 10 few, e, le-leb (value s) largest_number (subst (λ (n : ℕ). n ≤ largest_number) same least)))
-        by false e = absurd (let over : v ≡ past_32_bits = is ∙ rw e refl in omega arith)
+        by : (t : Bool) → all_digits s ≡ t → numeral s ≡ None
+        by true f = cc (rw f at e)
+        by false f = told ∙ rw (well, f) refl
+
+    pub by_value : (v : ℕ) → Some v ≡ due 0 s → numeral s ≡ cond (leb v largest_number) (Some v) None
+    by_value v e = by (all_digits s) refl
+      where
+        by : (t : Bool) → all_digits s ≡ t → numeral s ≡ cond (leb v largest_number) (Some v) None
+        by true f = let same : value s ≡ v = cc (rw f at e) in told ∙ rw (well, f) (ap (λ n. cond (leb n largest_number) (Some n) None) same)
+        by false f = cc (rw f at e)
+
+    pub in_32_bits : {E : Type 0} (v : ℕ) → Some v ≡ due 0 s → (r : Result ℕ E) → OkIff r (v < 4294967296) v → result_ok r ≡ numeral s
+    in_32_bits v e (Ok n) fits = sym (by_value v e ∙ rw (le-leb v largest_number (omega arith)) (ap Some (sym fits.1)))
+    in_32_bits v e (Err x) over = sym (by_value v e ∙ rw (lt-leb v largest_number (let most : 4294967296 ≤ v = omega arith in omega arith)))

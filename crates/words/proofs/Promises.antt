@@ -6,50 +6,46 @@ use mathlib.Core.Path.{◌≡◌, refl}
 use Prim.Native.Nat.{ℕ}
 use lib.Dec.{eqb}
 use lib.ListN.{length}
-use lib.IntN.{pos}
-use native.Mathlib.Omega.{arith}
+use lib.IntN.{ℤ, pos}
 use Rattle.terms.specs.Terms.{Figures, SignedFigures}
 use Rattle.terms.proofs.Refusals.{figure, signed_figure}
 use Rattle.terms.proofs.OneAnswer.{by_figures}
-use Rattle.words.specs.declared.Numeral.{Numeral}
-use Rattle.words.specs.declared.Numeral.TheVariants.{Value, NoNumber}
-use Rattle.words.specs.declared.SignedNumeral.{SignedNumeral}
-use Rattle.words.specs.declared.SignedNumeral.TheVariants as SignedNumerals
+use Rattle.std.specs.Prelude.{Option, Some, None}
 use Rattle.words.specs.Letters.{bytes}
 use Rattle.words.specs.Words.{all_digits, value_on, is_number, numeral, numeral_figures, same_bytes, begins}
 use Rattle.words.specs.Signed.{upwards, signed_numeral, signed_numeral_figures}
 
 -- A field's number can be told from its figures.
-numeral_from : Figures → Numeral
-numeral_from f = cond (eqb f.refusal 0) (Value (figure 0 f)) NoNumber
+numeral_from : Figures → Option ℕ
+numeral_from f = cond (eqb f.refusal 0) (Some (figure 0 f)) None
 
-numeral_told : (n : Numeral) → numeral_from (numeral_figures n) ≡ n
+numeral_told : (n : Option ℕ) → numeral_from (numeral_figures n) ≡ n
 unfolding numeral_from
-numeral_told (Value n) = refl
-numeral_told NoNumber = refl
+numeral_told (Some n) = refl
+numeral_told None = refl
 
-pub numeral_one : (m n : Numeral) {f : Figures} → numeral_figures m ≡ f → numeral_figures n ≡ f → m ≡ n
+pub numeral_one : (m n : Option ℕ) {f : Figures} → numeral_figures m ≡ f → numeral_figures n ≡ f → m ≡ n
 numeral_one = by_figures numeral_figures numeral_from numeral_told
 
-signed_from : SignedFigures → SignedNumeral
-signed_from f = cond (eqb f.refusal 0) (SignedNumerals.Value (signed_figure 0 f)) SignedNumerals.NoNumber
+signed_from : SignedFigures → Option ℤ
+signed_from f = cond (eqb f.refusal 0) (Some (signed_figure 0 f)) None
 
-signed_told : (n : SignedNumeral) → signed_from (signed_numeral_figures n) ≡ n
+signed_told : (n : Option ℤ) → signed_from (signed_numeral_figures n) ≡ n
 unfolding signed_from
-signed_told (SignedNumerals.Value z) = refl
-signed_told SignedNumerals.NoNumber = refl
+signed_told (Some z) = refl
+signed_told None = refl
 
-pub signed_one : (m n : SignedNumeral) {f : SignedFigures} → signed_numeral_figures m ≡ f → signed_numeral_figures n ≡ f → m ≡ n
+pub signed_one : (m n : Option ℤ) {f : SignedFigures} → signed_numeral_figures m ≡ f → signed_numeral_figures n ≡ f → m ≡ n
 signed_one = by_figures signed_numeral_figures signed_from signed_told
 
 -- Of `signed_numeral_of`: one that takes no minus, which -7 shows, and one that takes -0 for 0.
 pub takes_no_minus : ((f : List ℕ) → upwards (numeral f) ≡ signed_numeral f) → ⊥
 unfolding signed_numeral numeral is_number all_digits value_on
-takes_no_minus promise = let z : ◌≡◌ {A = ℕ} 0 1 = cc (promise (bytes "-7")) in omega arith
+takes_no_minus promise = cc (promise (bytes "-7"))
 
-pub takes_minus_zero : (SignedNumerals.Value (pos 0) ≡ signed_numeral (bytes "-0")) → ⊥
+pub takes_minus_zero : (Some (pos 0) ≡ signed_numeral (bytes "-0")) → ⊥
 unfolding signed_numeral numeral is_number all_digits value_on
-takes_minus_zero promise = let z : ◌≡◌ {A = ℕ} 0 1 = cc in omega arith
+takes_minus_zero promise = cc
 
 -- Of `is_word`: one that tests the length alone, which AREB passes for AREA, and one that tests only the first bytes, which AREAX passes.
 pub length_alone : ((s known : List ℕ) → eqb (length s) (length known) ≡ same_bytes s known) → ⊥

@@ -10,11 +10,11 @@ use native.Mathlib.Omega.{arith}
 use borrow.Author.Tests.{le-leb, eqb-true, eq-eqb}
 use lib.Dec.{eqb, lit<}
 use lib.ListN.{length, length-append}
-use Rattle.words.specs.declared.Numeral.{Numeral}
-use Rattle.words.specs.declared.Numeral.TheVariants.{Value, NoNumber}
+use Rattle.std.specs.Prelude.{Option, Some, None}
 use Rattle.words.specs.Words.{largest_number, is_digit, all_digits, well_begun, value_on, value, is_number, numeral, numeral_figures}
 use Rattle.words.specs.Words.{Spelling, unpadded, in_ten, Spells}
 use Rattle.words.specs.Decimal.{decimal, last_digits, padded}
+use Rattle.words.proofs.Numerals.{no_digits, in_32_bits}
 use Rattle.words.proofs.Decimals.{digits_more, few_digits, ten_digits, value_append, digits_append, a_digit, prints, printed_begun, read_back}
 use Rattle.words.proofs.Decimals.{Reads, reads, digit, spelt}
 
@@ -66,7 +66,7 @@ spelt_in_ten f ten e =
     sym (ap (λ k. last_digits k (value f)) (sym all) ∙ last_on f 0 0 e)
 
 -- What the printer makes of a number, up to the largest, is read as that number.
-pub read_padded : (n : ℕ) → n ≤ largest_number → numeral (padded n) ≡ Value n
+pub read_padded : (n : ℕ) → n ≤ largest_number → numeral (padded n) ≡ Some n
 unfolding numeral is_number padded
 read_padded n l =
     let ten = last_length 10 n in
@@ -79,14 +79,14 @@ read_padded n l =
       eq-eqb (length (last_digits 10 n)) 10 ten,
       within,
     )
-    (ap Value same)
+    (ap Some same)
 
 -- A field is a number of value n exactly if n is at most the largest number and the field is one of its two spellings.
-pub read_so : (f : List ℕ) (n : ℕ) → n ≤ largest_number → Spelling f n → numeral f ≡ Value n
+pub read_so : (f : List ℕ) (n : ℕ) → n ≤ largest_number → Spelling f n → numeral f ≡ Some n
 read_so f n l (unpadded e) = ap numeral e ∙ read_back n l
 read_so f n l (in_ten e) = ap numeral e ∙ read_padded n l
 
-pub two_spellings : (f : List ℕ) (n : ℕ) → numeral f ≡ Value n → Spelling f n
+pub two_spellings : (f : List ℕ) (n : ℕ) → numeral f ≡ Some n → Spelling f n
 two_spellings f n e = by (reads f n e) (eqb (length f) 10) refl
   where
     by : Reads f n → (t : Bool) → eqb (length f) 10 ≡ t → Spelling f n
@@ -99,20 +99,26 @@ two_spellings f n e = by (reads f n e) (eqb (length f) 10) refl
 pub spells : (f : List ℕ) → Spells f (numeral f)
 spells f = by (numeral f) refl
   where
-    by : (m : Numeral) → numeral f ≡ m → Spells f m
-    by (Value n) e = ((reads f n e).most, two_spellings f n e)
-    by NoNumber e = λ n l s. let z : ◌≡◌ {A = ℕ} 0 1 = cc (read_so f n l s) in omega arith
+    by : (m : Option ℕ) → numeral f ≡ m → Spells f m
+    by (Some n) e = ((reads f n e).most, two_spellings f n e)
+    by None e = λ n l s. cc (read_so f n l s)
 
-pub told_so : (f : List ℕ) {m : Numeral} → m ≡ numeral f → (numeral_figures m ≡ numeral_figures (numeral f)) × Spells f m
+pub told_so : (f : List ℕ) {m : Option ℕ} → m ≡ numeral f → (numeral_figures m ≡ numeral_figures (numeral f)) × Spells f m
 told_so f e = (ap numeral_figures e, subst⁻¹ (Spells f) e (spells f))
 
-pub only_answer : (f : List ℕ) (m : Numeral) → Spells f m → m ≡ numeral f
-only_answer f (Value n) s = sym (read_so f n s.0 s.1)
-only_answer f NoNumber none = by (numeral f) refl
+pub figures_told : (f : List ℕ) (m : Option ℕ) → m ≡ numeral f → numeral_figures m ≡ numeral_figures (numeral f)
+figures_told f m e = (told_so f e).0
+
+pub spelling_told : (f : List ℕ) (m : Option ℕ) → m ≡ numeral f → Spells f m
+spelling_told f m e = (told_so f e).1
+
+pub only_answer : (f : List ℕ) (m : Option ℕ) → Spells f m → m ≡ numeral f
+only_answer f (Some n) s = sym (read_so f n s.0 s.1)
+only_answer f None none = by (numeral f) refl
   where
-    by : (m : Numeral) → numeral f ≡ m → NoNumber ≡ m
-    by (Value n) e = absurd (none n (reads f n e).most (two_spellings f n e))
-    by NoNumber e = refl
+    by : (m : Option ℕ) → numeral f ≡ m → None ≡ m
+    by (Some n) e = absurd (none n (reads f n e).most (two_spellings f n e))
+    by None e = refl
 
 -- a number from ten to the power k on has over k digits
 many_digits : (k n : ℕ) → 10 ^ k ≤ n → suc k ≤ length (decimal n)
@@ -137,9 +143,9 @@ padded_ten n = last_length 10 n
 
 pub record TwoSpellings (n : ℕ) : Type 0 where
   pub differ : decimal n ≡ padded n → ⊥
-  pub unpadded_read : numeral (decimal n) ≡ Value n
-  pub padded_read : numeral (padded n) ≡ Value n
-  pub no_third : (f : List ℕ) → numeral f ≡ Value n → (f ≡ decimal n) ⊎ (f ≡ padded n)
+  pub unpadded_read : numeral (decimal n) ≡ Some n
+  pub padded_read : numeral (padded n) ≡ Some n
+  pub no_third : (f : List ℕ) → numeral f ≡ Some n → (f ≡ decimal n) ⊎ (f ≡ padded n)
 
 pub two_below : (n : ℕ) → n < 1000000000 → TwoSpellings n
 two_below n l =
@@ -156,5 +162,8 @@ two_below n l =
     either (in_ten e) = inr e
 
 -- "What the program prints is unpadded": it begins by the old rule, and is read back.
-pub printed_unpadded : (n : ℕ) → n ≤ largest_number → (well_begun (decimal n) ≡ true) × (numeral (decimal n) ≡ Value n)
+pub printed_unpadded : (n : ℕ) → n ≤ largest_number → (well_begun (decimal n) ≡ true) × (numeral (decimal n) ≡ Some n)
 printed_unpadded n l = (printed_begun n, read_back n l)
+
+-- the laws of what the code reads of a field that is formed well, by one name
+pub ruleset told = (no_digits, in_32_bits, figures_told, spelling_told)

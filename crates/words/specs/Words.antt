@@ -1,10 +1,8 @@
 -- What a field holds: a word, compared byte by byte, or a number. Document 01, "Order lines": "A number is 1 to 10 digits" and "whose first four bytes are
 -- AREA"; document 02, order 4, on a number of ten digits and its spellings.
-use Rattle.std.specs.Prelude.{Bool, true, false, not, cond, ◌&&◌, ◌||◌, List, [], ◌∷◌, ◌≡◌, ℕ, ◌+◌, ◌-◌, ◌*◌, ◌≤◌, leb, eqb, length, take}
+use Rattle.std.specs.Prelude.{Bool, true, false, not, cond, ◌&&◌, ◌||◌, List, [], ◌∷◌, ◌≡◌, ℕ, ◌+◌, ◌-◌, ◌*◌, ◌≤◌, leb, eqb, length, take, Option, Some, None}
 use Rattle.terms.specs.declared.Refusal.TheVariants.{NotANumber}
 use Rattle.terms.specs.Terms.{Figures, answered, refused}
-use Rattle.words.specs.declared.Numeral.{Numeral}
-use Rattle.words.specs.declared.Numeral.TheVariants.{Value, NoNumber}
 use Rattle.words.specs.Decimal.{decimal, padded}
 
 -- "digits": bytes 48 to 57.
@@ -41,13 +39,13 @@ largest_number = 4294967295
 unfoldable pub is_number : List ℕ → Bool
 is_number f = leb 1 (length f) && leb (length f) 10 && all_digits f && may_begin f && leb (value f) largest_number
 
-unfoldable pub numeral : List ℕ → Numeral
-numeral f = cond (is_number f) (Value (value f)) NoNumber
+unfoldable pub numeral : List ℕ → Option ℕ
+numeral f = cond (is_number f) (Some (value f)) None
 
 -- The figures of a field read as a number: its value, or "5: a field of a line is not a number".
-abbrev pub numeral_figures : Numeral → Figures
-numeral_figures (Value n) = answered (n ∷ [])
-numeral_figures NoNumber = refused NotANumber 1
+abbrev pub numeral_figures : Option ℕ → Figures
+numeral_figures (Some n) = answered (n ∷ [])
+numeral_figures None = refused NotANumber 1
 
 -- "Each value below 1,000,000,000 then has two spellings, and the reader's contract says which two": in decimal, and padded to ten digits.
 pub data Spelling (f : List ℕ) (n : ℕ) : Type 0 where
@@ -55,9 +53,9 @@ pub data Spelling (f : List ℕ) (n : ℕ) : Type 0 where
   in_ten : f ≡ padded n → Spelling f n
 
 -- What a field read as a number is: a spelling of that number, which is at most the largest; or, where it is read as none, of no such number.
-abbrev pub Spells : List ℕ → Numeral → Type 0
-Spells f (Value n) = (n ≤ largest_number) × Spelling f n
-Spells f NoNumber = (n : ℕ) → n ≤ largest_number → Spelling f n → ⊥
+abbrev pub Spells : List ℕ → Option ℕ → Type 0
+Spells f (Some n) = (n ≤ largest_number) × Spelling f n
+Spells f None = (n : ℕ) → n ≤ largest_number → Spelling f n → ⊥
 
 -- Whether some bytes are a word's.
 unfoldable pub same_bytes : List ℕ → List ℕ → Bool

@@ -1,12 +1,8 @@
 -- Fields worked by hand, as one table under one claim, which computes: the numbers that document 01, "Order lines", and document 02, orders 4 and 6, give, and
 -- for each sentence of them the nearest fields on either side.
-use Rattle.std.specs.Prelude.{Bool, true, false, ◌&&◌, List, [], ◌∷◌, ℕ, T, eqb, ℤ, pos, negsuc}
+use Rattle.std.specs.Prelude.{Bool, true, false, ◌&&◌, List, [], ◌∷◌, ℕ, T, eqb, ℤ, pos, negsuc, Option, Some, None, is_none}
 use Prim.Native.String.{String}
 use Rattle.terms.specs.Comparing.{same_integer}
-use Rattle.words.specs.declared.Numeral.{Numeral}
-use Rattle.words.specs.declared.Numeral.TheVariants.{Value, NoNumber}
-use Rattle.words.specs.declared.SignedNumeral.{SignedNumeral}
-use Rattle.words.specs.declared.SignedNumeral.TheVariants as SignedNumerals
 use Rattle.words.specs.Letters.{bytes}
 use Rattle.words.specs.Words.{all_digits, value_on, is_number, numeral}
 use Rattle.words.specs.Signed.{signed_numeral}
@@ -18,28 +14,20 @@ pub data Case : Type 0 where
   signed : String → ℤ → Case
   none_signed : String → Case
 
-is_value : ℕ → Numeral → Bool
-is_value n (Value m) = eqb m n
-is_value n NoNumber = false
+is_value : ℕ → Option ℕ → Bool
+is_value n (Some m) = eqb m n
+is_value n None = false
 
-is_none : Numeral → Bool
-is_none (Value m) = false
-is_none NoNumber = true
-
-is_integer : ℤ → SignedNumeral → Bool
-is_integer z (SignedNumerals.Value y) = same_integer y z
-is_integer z SignedNumerals.NoNumber = false
-
-is_no_integer : SignedNumeral → Bool
-is_no_integer (SignedNumerals.Value y) = false
-is_no_integer SignedNumerals.NoNumber = true
+is_integer : ℤ → Option ℤ → Bool
+is_integer z (Some y) = same_integer y z
+is_integer z None = false
 
 right : Case → Bool
-unfolding is_value is_none is_integer is_no_integer numeral is_number all_digits value_on signed_numeral
+unfolding is_value is_integer numeral is_number all_digits value_on signed_numeral
 right (number field n) = is_value n (numeral (bytes field))
 right (none field) = is_none (numeral (bytes field))
 right (signed field z) = is_integer z (signed_numeral (bytes field))
-right (none_signed field) = is_no_integer (signed_numeral (bytes field))
+right (none_signed field) = is_none (signed_numeral (bytes field))
 
 pub all_right : List Case → Bool
 unfolding right

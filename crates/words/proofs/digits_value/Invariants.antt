@@ -4,5 +4,5 @@ use Rattle.std.proofs.Common.{◌≡◌, ◌<◌, ◌^◌, drop}
 use Rattle.words.proofs.Numerals.{due}
 use Rattle.words.proofs.digits_value.Given as goal
 
-abbrev pub invariant-loop-i : goal.invariant-loop-i
-invariant-loop-i l = (l.v < 10 ^ l.i) × (due l.v (drop l.i l.s) ≡ due 0 l.s)
+abbrev pub invariant-loop-b : goal.invariant-loop-b
+invariant-loop-b l = record { small : l.v < 10 ^ l.b-index; due_of_rest : due l.v (drop l.b-index l.s) ≡ due 0 l.s }
