@@ -19,14 +19,12 @@ use Rattle.curve.specs.Lookups.{number_guards, square_guards, finish_guards, num
 use Rattle.curve.proofs.Refused.{number_no_other, square_no_other, finish_no_other}
 use Rattle.lines.specs.declared.Request.{Request}
 use Rattle.lines.specs.declared.Request.TheVariants.{SetArea, SetOrigin, AskNumber, AskSquare}
-use Rattle.lines.specs.declared.Request as Requests
 use Rattle.lines.specs.Lines.{request, Says}
-use Rattle.lines.proofs.Asking.{Shaped, says_so, number_spelt, origin_spelt, square_spelt}
+use Rattle.lines.proofs.Asking.{Shaped, SaysIfAsked, says_so, number_spelt, origin_spelt, square_spelt}
 use Rattle.lines.proofs.Refused.{Asking, line_refused_8, line_refused_6, line_refused_5, line_refused_so}
-use Rattle.clerk.specs.declared.Clerk.{Clerk}
-use Rattle.clerk.specs.declared.Clerk.TheVariants.{NoArea, InForce}
+use Rattle.std.specs.Prelude.{Some, None, Result, Ok, Err}
 use Rattle.clerk.specs.Clerk as spec
-use Rattle.clerk.proofs.Handling.{nth_number, word_mark, mark, call_refused_exactly}
+use Rattle.clerk.proofs.Handling.{nth_number, call_refused_exactly}
 use Rattle.clerk.proofs.Answered.{line_refused}
 
 -- a refusal is told from what is said
@@ -53,16 +51,16 @@ own_7 : Own Refusals.TheVariants.NoArea
 own_7 = record { no_finish = λ a. refl; no_number = λ a i. refl; no_square = λ a x y. refl; no_origin = λ e. omega (arith, ap refusal_number e) }
 
 -- a request that needs an area in force
-abbrev NeedsArea : Request → Type 0
-NeedsArea (SetArea w h) = ⊥
-NeedsArea (SetOrigin ox oy) = Unit {0}
-NeedsArea (AskNumber i) = Unit {0}
-NeedsArea (AskSquare x y) = Unit {0}
-NeedsArea (Requests.TheVariants.Refused r) = ⊥
+abbrev NeedsArea : Result Request Refusal → Type 0
+NeedsArea (Ok (SetArea w h)) = ⊥
+NeedsArea (Ok (SetOrigin ox oy)) = Unit {0}
+NeedsArea (Ok (AskNumber i)) = Unit {0}
+NeedsArea (Ok (AskSquare x y)) = Unit {0}
+NeedsArea (Err r) = ⊥
 
 -- What it is to be refused so: the request itself is, or no area is in force and the request needs one.
 module _ {r : Refusal} (own : Own r) where
-  by_call : (word : spec.Word) → (word_mark word ≡ 3 → ⊥) → (first : List ℤ) (f : SignedFigures) → (f.refusal ≡ refusal_number r → ⊥)
+  by_call : (word : spec.Word) → (word ≡ spec.Refused → ⊥) → (first : List ℤ) (f : SignedFigures) → (f.refusal ≡ refusal_number r → ⊥)
       → spec.from_call word first f ≡ spec.refuses r → ⊥
   by_call word other first f never e = never ((call_refused_exactly word first f other (refusal_number r) (refusal_some r)).0 e)
 
@@ -70,23 +68,23 @@ module _ {r : Refusal} (own : Own r) where
   by_origin ox oy = by (origin_accepted ox oy)
     where
       by : (t : Bool) → cond t (spec.says spec.OriginSaid (ox ∷ oy ∷ [])) (spec.refuses OriginLimit) ≡ spec.refuses r → ⊥
-      by true e = omega (arith, ap mark e)
+      by true e = cc (ap (λ s. s.word) e)
       by false e = own.no_origin (same_refused OriginLimit r e)
 
-  refused_by : (held : Clerk) (q : Request) → spec.reply_to held q ≡ spec.refuses r
-      → (q ≡ Requests.TheVariants.Refused r) ⊎ ((held ≡ NoArea) × (NeedsArea q × (Refusals.TheVariants.NoArea ≡ r)))
-  refused_by held (Requests.TheVariants.Refused s) e = inl (ap Requests.TheVariants.Refused (same_refused s r e))
-  refused_by held (SetArea w h) e =
+  refused_by : (held : spec.InForce) (q : Result Request Refusal) → spec.reply_to held q ≡ spec.refuses r
+      → (q ≡ Err r) ⊎ ((held ≡ None) × (NeedsArea q × (Refusals.TheVariants.NoArea ≡ r)))
+  refused_by held (Err s) e = inl (ap Err (same_refused s r e))
+  refused_by held (Ok (SetArea w h)) e =
       let f = finish_square_at (at_post w h) in
-      absurd (by_call spec.AreaSaid (λ z. omega arith) (pos w ∷ pos h ∷ pos (w * h) ∷ []) f (finish_no_other (at_post w h) r (own.no_finish (at_post w h))) e)
-  refused_by NoArea (SetOrigin ox oy) e = inr (refl, (tt, same_refused Refusals.TheVariants.NoArea r e))
-  refused_by NoArea (AskNumber i) e = inr (refl, (tt, same_refused Refusals.TheVariants.NoArea r e))
-  refused_by NoArea (AskSquare x y) e = inr (refl, (tt, same_refused Refusals.TheVariants.NoArea r e))
-  refused_by (InForce a) (SetOrigin ox oy) e = absurd (by_origin ox oy e)
-  refused_by (InForce a) (AskNumber i) e =
-      absurd (by_call spec.Cell (λ z. omega arith) [] (number_to_square_at a i) (number_no_other a i r (own.no_number a i)) e)
-  refused_by (InForce a) (AskSquare x y) e =
-      absurd (by_call spec.Number (λ z. omega arith) [] (signed (square_to_number_at a x y)) (square_no_other a x y r (own.no_square a x y)) e)
+      absurd (by_call spec.AreaSaid (λ z. cc) (pos w ∷ pos h ∷ pos (w * h) ∷ []) f (finish_no_other (at_post w h) r (own.no_finish (at_post w h))) e)
+  refused_by None (Ok (SetOrigin ox oy)) e = inr (refl, (tt, same_refused Refusals.TheVariants.NoArea r e))
+  refused_by None (Ok (AskNumber i)) e = inr (refl, (tt, same_refused Refusals.TheVariants.NoArea r e))
+  refused_by None (Ok (AskSquare x y)) e = inr (refl, (tt, same_refused Refusals.TheVariants.NoArea r e))
+  refused_by (Some a) (Ok (SetOrigin ox oy)) e = absurd (by_origin ox oy e)
+  refused_by (Some a) (Ok (AskNumber i)) e =
+      absurd (by_call spec.Cell (λ z. cc) [] (number_to_square_at a i) (number_no_other a i r (own.no_number a i)) e)
+  refused_by (Some a) (Ok (AskSquare x y)) e =
+      absurd (by_call spec.Number (λ z. cc) [] (signed (square_to_number_at a x y)) (square_no_other a x y r (own.no_square a x y)) e)
 
 -- A line that needs an area in force: "N or S line", "also for ORIGIN", with its numbers in whichever spellings.
 pub data OfArea (line : List ℕ) : Type 0 where
@@ -94,14 +92,14 @@ pub data OfArea (line : List ℕ) : Type 0 where
   of_square : (x y : ℤ) → Says (AskSquare x y) line → OfArea line
   of_origin : (ox oy : ℤ) → Says (SetOrigin ox oy) line → OfArea line
 
-module _ (clerk : Clerk) (line : List ℕ) where
+module _ (clerk : spec.InForce) (line : List ℕ) where
   early : {r : Refusal} → Own r → (Refusals.TheVariants.NoArea ≡ r → ⊥)
-      → (spec.reply clerk line ≡ spec.refuses r) ↔ (request line ≡ Requests.TheVariants.Refused r)
+      → (spec.reply clerk line ≡ spec.refuses r) ↔ (request line ≡ Err r)
   unfolding spec.reply
   early {r} own other = (λ e. by (refused_by own (spec.counted clerk) (request line) e), line_refused clerk line r)
     where
-      by : (request line ≡ Requests.TheVariants.Refused r) ⊎ ((spec.counted clerk ≡ NoArea) × (NeedsArea (request line) × (Refusals.TheVariants.NoArea ≡ r)))
-          → request line ≡ Requests.TheVariants.Refused r
+      by : (request line ≡ Err r) ⊎ ((spec.counted clerk ≡ None) × (NeedsArea (request line) × (Refusals.TheVariants.NoArea ≡ r)))
+          → request line ≡ Err r
       by (inl is) = is
       by (inr area) = absurd (other area.1.1)
 
@@ -127,29 +125,29 @@ module _ (clerk : Clerk) (line : List ℕ) where
       (λ e. why.0 (law.0 e), λ p. law.1 (why.1 p))
 
   -- "7: N or S line with no area in force", "also for ORIGIN": a clerk that counts as one with no area, and a line that needs one
-  pub reply_refused_7 : (spec.reply clerk line ≡ spec.says spec.Refused (pos 7 ∷ [])) ↔ ((spec.counted clerk ≡ NoArea) × OfArea line)
+  pub reply_refused_7 : (spec.reply clerk line ≡ spec.says spec.Refused (pos 7 ∷ [])) ↔ ((spec.counted clerk ≡ None) × OfArea line)
   unfolding spec.reply
   reply_refused_7 = (λ e. by (refused_by own_7 (spec.counted clerk) (request line) e), λ p. back p.0 p.1)
     where
-      needs : (q : Request) → Says q line → NeedsArea q → OfArea line
-      needs (SetArea w h) says n = absurd n
-      needs (SetOrigin ox oy) says n = of_origin ox oy says
-      needs (AskNumber i) says n = of_number i says
-      needs (AskSquare x y) says n = of_square x y says
-      needs (Requests.TheVariants.Refused r) says n = absurd n
+      needs : (q : Result Request Refusal) → SaysIfAsked q line → NeedsArea q → OfArea line
+      needs (Ok (SetArea w h)) says n = absurd n
+      needs (Ok (SetOrigin ox oy)) says n = of_origin ox oy says
+      needs (Ok (AskNumber i)) says n = of_number i says
+      needs (Ok (AskSquare x y)) says n = of_square x y says
+      needs (Err r) says n = absurd n
 
       not_so : (Refusals.TheVariants.NoArea ≡ LongLine) ⊎ ((Refusals.TheVariants.NoArea ≡ WrongShape) ⊎ (Refusals.TheVariants.NoArea ≡ NotANumber)) → ⊥
       not_so (inl e) = omega (arith, ap refusal_number e)
       not_so (inr (inl e)) = omega (arith, ap refusal_number e)
       not_so (inr (inr e)) = omega (arith, ap refusal_number e)
 
-      by : (request line ≡ Requests.TheVariants.Refused Refusals.TheVariants.NoArea)
-          ⊎ ((spec.counted clerk ≡ NoArea) × (NeedsArea (request line) × (Refusals.TheVariants.NoArea ≡ Refusals.TheVariants.NoArea)))
-          → (spec.counted clerk ≡ NoArea) × OfArea line
+      by : (request line ≡ Err Refusals.TheVariants.NoArea)
+          ⊎ ((spec.counted clerk ≡ None) × (NeedsArea (request line) × (Refusals.TheVariants.NoArea ≡ Refusals.TheVariants.NoArea)))
+          → (spec.counted clerk ≡ None) × OfArea line
       by (inl is) = absurd (not_so (line_refused_so line Refusals.TheVariants.NoArea is))
       by (inr none) = (none.0, needs (request line) (says_so line) none.1.0)
 
-      back : spec.counted clerk ≡ NoArea → OfArea line → spec.reply_to (spec.counted clerk) (request line) ≡ spec.says spec.Refused (pos 7 ∷ [])
+      back : spec.counted clerk ≡ None → OfArea line → spec.reply_to (spec.counted clerk) (request line) ≡ spec.says spec.Refused (pos 7 ∷ [])
       back none (of_number i says) = ap₂ spec.reply_to none (number_spelt line i says)
       back none (of_square x y says) = ap₂ spec.reply_to none (square_spelt x y line says)
       back none (of_origin ox oy says) = ap₂ spec.reply_to none (origin_spelt ox oy line says)

@@ -2,7 +2,7 @@
 -- "Errors a good programmer makes here", and for each of its sentences on lines some of our own; AREA lines with document 02's finish squares, and its orders 4
 -- and 6. Here stand refusals, by their numbers and in their order, and the area in force after each line with its origin; what an N or S line says
 -- otherwise is the call's own (`cell_replied`, `number_replied`), and so is the finish square of an area that is too large to list (`area_replied`).
-use Rattle.std.specs.Prelude.{Bool, true, false, ◌&&◌, ℕ, T, eqb, ℤ, pos, negsuc, replicate, take}
+use Rattle.std.specs.Prelude.{Bool, true, false, ◌&&◌, ℕ, T, eqb, ℤ, pos, negsuc, replicate, take, Some, None}
 use mathlib.Core.List.{List, [], ◌∷◌, ◌++◌}
 use Prim.Native.String.{String}
 use Rattle.terms.specs.Terms.{accepted, origin_accepted, in_signs}
@@ -16,9 +16,7 @@ use Rattle.words.specs.Words.{all_digits, value_on, is_number, numeral, same_byt
 use Rattle.words.specs.Signed.{signed_numeral}
 use Rattle.fields.specs.Fields.{fields}
 use Rattle.lines.specs.Lines.{shaped, request}
-use Rattle.clerk.specs.declared.Clerk.{Clerk}
-use Rattle.clerk.specs.declared.Clerk.TheVariants.{NoArea, InForce}
-use Rattle.clerk.specs.Clerk.{Word, AreaSaid, OriginSaid, Cell, Number, Refused, Said, after, reply}
+use Rattle.clerk.specs.Clerk.{Word, AreaSaid, OriginSaid, Cell, Number, Refused, Said, InForce, after, reply}
 
 -- A line of the table.
 pub data Case : Type 0 where
@@ -42,8 +40,8 @@ pub data Case : Type 0 where
   by_hand : (w h : ℕ) (ox oy : ℤ) → String → (refusal : ℕ) → Case
 
 -- (`negsuc n` is the integer -(n + 1).)
-three_by_four : Clerk
-three_by_four = InForce (record { w = 3; h = 4; ox = negsuc 1; oy = pos 7 })
+three_by_four : InForce
+three_by_four = Some (record { w = 3; h = 4; ox = negsuc 1; oy = pos 7 })
 
 -- words told apart
 place : Word → ℕ
@@ -60,30 +58,30 @@ has_said word of due s = eqb (place s.word) (place word) && same_integers (of s.
 is_refusal : ℕ → Said → Bool
 is_refusal r = has_said Refused (λ numbers. numbers) (pos r ∷ [])
 
-holds_none : Clerk → Bool
-holds_none NoArea = true
-holds_none (InForce area) = false
+holds_none : InForce → Bool
+holds_none None = true
+holds_none (Some area) = false
 
-holds : (w h : ℕ) (ox oy : ℤ) → Clerk → Bool
-holds w h ox oy NoArea = false
-holds w h ox oy (InForce area) = (eqb area.w w && eqb area.h h) && (same_integer area.ox ox && same_integer area.oy oy)
+holds : (w h : ℕ) (ox oy : ℤ) → InForce → Bool
+holds w h ox oy None = false
+holds w h ox oy (Some area) = (eqb area.w w && eqb area.h h) && (same_integer area.ox ox && same_integer area.oy oy)
 
-kept : Clerk → Bool
+kept : InForce → Bool
 kept = holds 3 4 (negsuc 1) (pos 7)
 
 -- a line sets w by h at origin 0 0 under every clerk of the table, and of what its reply says after AREA this part is due
 sets_so : String → (w h : ℕ) → (List ℤ → List ℤ) → List ℤ → Bool
 unfolding same_integers place has_said holds three_by_four reply after request shaped fields same_bytes numeral is_number all_digits value_on
 sets_so line w h of due =
-    has_said AreaSaid of due (reply NoArea (bytes line))
+    has_said AreaSaid of due (reply None (bytes line))
     && has_said AreaSaid of due (reply three_by_four (bytes line))
-    && holds w h (pos 0) (pos 0) (after NoArea (bytes line))
+    && holds w h (pos 0) (pos 0) (after None (bytes line))
     && holds w h (pos 0) (pos 0) (after three_by_four (bytes line))
 
 right : Case → Bool
 unfolding same_integers is_refusal place has_said holds_none holds kept three_by_four reply after request shaped fields same_bytes signed_numeral numeral
     is_number all_digits value_on sets_so
-right (with_none line r) = is_refusal r (reply NoArea (bytes line)) && holds_none (after NoArea (bytes line))
+right (with_none line r) = is_refusal r (reply None (bytes line)) && holds_none (after None (bytes line))
 right (stays line r) = is_refusal r (reply three_by_four (bytes line)) && kept (after three_by_four (bytes line))
 right (clears line r) = is_refusal r (reply three_by_four (bytes line)) && holds_none (after three_by_four (bytes line))
 right (sets line w h squares x y) = sets_so line w h (λ numbers. numbers) (pos w ∷ pos h ∷ pos squares ∷ pos x ∷ pos y ∷ [])
@@ -92,7 +90,7 @@ right (long_stays line r) = is_refusal r (reply three_by_four line) && kept (aft
 right (long_clears line r) = is_refusal r (reply three_by_four line) && holds_none (after three_by_four line)
 right (answers line word numbers) = has_said word (λ all. all) numbers (reply three_by_four (bytes line)) && kept (after three_by_four (bytes line))
 right (by_hand w h ox oy line r) =
-    let clerk = InForce (record { w = w; h = h; ox = ox; oy = oy }) in
+    let clerk = Some (record { w = w; h = h; ox = ox; oy = oy }) in
     is_refusal r (reply clerk (bytes line)) && holds_none (after clerk (bytes line))
 right (places line ox oy) =
     has_said OriginSaid (λ numbers. numbers) (ox ∷ oy ∷ []) (reply three_by_four (bytes line)) && holds 3 4 ox oy (after three_by_four (bytes line))

@@ -1,26 +1,27 @@
 // The order clerk: the area in force; a line in, a reply out.
 #![tactic(auto)]
 
-ghost use Rattle.std.specs.Prelude.{[], ◌∷◌, ◌≡◌, ◌*◌, pos};
+ghost use Rattle.std.specs.Prelude.{[], ◌∷◌, ◌≡◌, ◌*◌, pos, None, ok_or};
+ghost use Rattle.terms.specs.declared.Refusal.TheVariants as Refusals;
 ghost use Rattle.terms.specs.Terms.{at_post, signed};
 ghost use Rattle.lines.specs.Lines.{begins_setting};
 ghost use Rattle.curve.specs.Lookups.{number_to_square_at, square_to_number_at, finish_square_at};
 ghost use Rattle.clerk.specs.Clerk.{AreaSaid, Cell, Number, said, from_call, origin_reply, reply_to};
 ghost use Rattle.clerk.specs.Clerk.{clerk_under, counted, with_origin, clerk_after, after, reply};
 
-use curve::{FinishAnswer, NumberAnswer, SquareAnswer};
+use curve::{FoundSquare, Square};
 use lines::Request;
-use terms::{Admission, Area, Refusal};
+use searches::Numbered;
+use terms::{Area, Refusal};
 
-// The area in force with its origin, if there is one.
-#[derive(Clone, Copy)]
-pub enum Clerk {
-    NoArea,
-    InForce(Area),
+// A clerk: the area in force with its origin, if there is one. Anyone may make one by hand, with any area: it counts as that area does (`counted`).
+#[derive(Clone, Copy, Debug, PartialEq, Eq)]
+pub struct Clerk {
+    pub area: Option<Area>,
 }
 
-// What a line is answered.
-#[derive(Clone, Copy)]
+// What an accepted line is answered.
+#[derive(Clone, Copy, Debug, PartialEq, Eq)]
 pub enum Reply {
     AreaSet {
         w: u32,
@@ -42,161 +43,139 @@ pub enum Reply {
         number: u32,
         blocks: u32,
     },
-    Refused(Refusal),
 }
 
-// The clerk after a line, and the reply to it.
-#[derive(Clone, Copy)]
+// The clerk after a line, and the reply to it, or why it is refused.
+#[derive(Clone, Copy, Debug, PartialEq, Eq)]
 pub struct Handled {
     pub clerk: Clerk,
-    pub reply: Reply,
+    pub reply: Result<Reply, Refusal>,
 }
 
 // The reply to an AREA line.
-fn area_reply(w: u32, h: u32) -> Reply
+fn area_reply(w: u32, h: u32) -> Result<Reply, Refusal>
     ensures { said result ≡ from_call AreaSaid (pos w ∷ pos h ∷ pos (w * h) ∷ []) (finish_square_at (at_post w h)) }
 {
-    match curve::finish_square(terms::at_post(w, h)) {
-        FinishAnswer::Found { x, y } => Reply::AreaSet {
-            w: w,
-            h: h,
-            squares: w * h,
-            x: x,
-            y: y,
-        },
-        FinishAnswer::Refused(r) => Reply::Refused(r),
-    }
+    let Square { x, y } = curve::finish_square(terms::at_post(w, h))?;
+    Ok(Reply::AreaSet {
+        w,
+        h,
+        squares: w * h,
+        x,
+        y,
+    })
 }
 
 // The reply to an ORIGIN line under an area.
-fn origin_reply(ox: i32, oy: i32) -> Reply
+fn origin_reply(ox: i32, oy: i32) -> Result<Reply, Refusal>
     ensures { said result ≡ origin_reply ox oy }
 {
-    if terms::accepts_origin(ox, oy) {
-        return Reply::OriginSet { ox: ox, oy: oy };
-    }
-    Reply::Refused(Refusal::OriginLimit)
+    terms::guard(terms::accepts_origin(ox, oy), Refusal::OriginLimit)?;
+    Ok(Reply::OriginSet { ox, oy })
 }
 
 // The reply to an N line under an area.
-fn cell_reply(area: Area, i: u32) -> Reply
+fn cell_reply(area: Area, i: u32) -> Result<Reply, Refusal>
     ensures { said result ≡ from_call Cell [] (number_to_square_at area i) }
 {
-    match curve::number_to_square(area, i) {
-        SquareAnswer::Found { x, y, blocks } => Reply::Cell {
-            x: x,
-            y: y,
-            blocks: blocks,
-        },
-        SquareAnswer::Refused(r) => Reply::Refused(r),
-    }
+    let FoundSquare { x, y, blocks } = curve::number_to_square(area, i)?;
+    Ok(Reply::Cell { x, y, blocks })
 }
 
 // The reply to an S line under an area.
-fn number_reply(area: Area, x: i32, y: i32) -> Reply
+#[tactic(auto, unfolding(terms::specs::Terms::in_signs))]
+fn number_reply(area: Area, x: i32, y: i32) -> Result<Reply, Refusal>
     ensures { said result ≡ from_call Number [] (signed (square_to_number_at area x y)) }
 {
-    match curve::square_to_number(area, x, y) {
-        NumberAnswer::Found { number, blocks } => Reply::Number {
-            number: number,
-            blocks: blocks,
-        },
-        NumberAnswer::Refused(r) => Reply::Refused(r),
-    }
-}
-
-// The reply to a request: an area is asked for where the request needs one.
-fn reply_to(clerk: Clerk, asked: Request) -> Reply
-    ensures { said result ≡ reply_to clerk asked }
-{
-    match asked {
-        Request::SetArea { w, h } => area_reply(w, h),
-        Request::SetOrigin { ox, oy } => match clerk {
-            Clerk::NoArea => Reply::Refused(Refusal::NoArea),
-            Clerk::InForce(_) => origin_reply(ox, oy),
-        },
-        Request::AskNumber { i } => match clerk {
-            Clerk::NoArea => Reply::Refused(Refusal::NoArea),
-            Clerk::InForce(area) => cell_reply(area, i),
-        },
-        Request::AskSquare { x, y } => match clerk {
-            Clerk::NoArea => Reply::Refused(Refusal::NoArea),
-            Clerk::InForce(area) => number_reply(area, x, y),
-        },
-        Request::Refused(r) => Reply::Refused(r),
-    }
+    let Numbered { number, blocks } = curve::square_to_number(area, x, y)?;
+    Ok(Reply::Number { number, blocks })
 }
 
 // The clerk with an area in force, or with none where the area or its origin is not accepted.
+#[tactic(auto, using(terms::proofs::Limits::on_grid, terms::proofs::Limits::off_grid))]
 pub fn clerk_under(area: Area) -> Clerk
-    ensures { result ≡ clerk_under area }
+    ensures { result.area ≡ clerk_under area }
 {
     match terms::admit_grid(area) {
-        Admission::Granted => Clerk::InForce(area),
-        Admission::Refused(_) => Clerk::NoArea,
-    }
-}
-
-// The clerk as it counts: one made by hand may hold an area that is not accepted.
-fn counted(clerk: Clerk) -> Clerk
-    ensures { result ≡ counted clerk }
-{
-    match clerk {
-        Clerk::NoArea => Clerk::NoArea,
-        Clerk::InForce(area) => clerk_under(area),
-    }
-}
-
-// The clerk after an ORIGIN line, which sets the origin or leaves no area.
-fn with_origin(clerk: Clerk, ox: i32, oy: i32) -> Clerk
-    ensures { result ≡ with_origin clerk ox oy }
-{
-    match clerk {
-        Clerk::NoArea => Clerk::NoArea,
-        Clerk::InForce(area) => {
-            if !terms::accepts_origin(ox, oy) {
-                return Clerk::NoArea;
-            }
-            Clerk::InForce(Area {
-                w: area.w,
-                h: area.h,
-                ox: ox,
-                oy: oy,
-            })
-        }
-    }
-}
-
-// The clerk after a line.
-fn clerk_after(clerk: Clerk, line: &[u8], asked: Request) -> Clerk
-    ensures { result ≡ clerk_after clerk (begins_setting line.now) asked }
-{
-    match asked {
-        Request::SetArea { w, h } => clerk_under(terms::at_post(w, h)),
-        Request::SetOrigin { ox, oy } => with_origin(clerk, ox, oy),
-        Request::Refused(_) => {
-            if lines::begins_setting(line) {
-                return Clerk::NoArea;
-            }
-            clerk
-        }
-        _ => clerk,
+        Ok(()) => Clerk { area: Some(area) },
+        Err(_) => Clerk::new(),
     }
 }
 
 impl Clerk {
+    // A clerk with no area in force.
+    pub fn new() -> Clerk
+        ensures { result.area ≡ None }
+    {
+        Clerk { area: None }
+    }
+
+    // The clerk as it counts: one made by hand may hold an area that is not accepted.
+    fn counted(self) -> Clerk
+        ensures { result.area ≡ counted self.area }
+    {
+        match self.area {
+            Some(area) => clerk_under(area),
+            None => self,
+        }
+    }
+
+    // The area in force, which some requests need.
+    fn in_force(self) -> Result<Area, Refusal>
+        ensures { result ≡ ok_or self.area Refusals.NoArea }
+    {
+        self.area.ok_or(Refusal::NoArea)
+    }
+
+    // The reply to a request.
+    fn reply_to(self, asked: Result<Request, Refusal>) -> Result<Reply, Refusal>
+        ensures { said result ≡ reply_to self.area asked }
+    {
+        match asked? {
+            Request::SetArea { w, h } => area_reply(w, h),
+            Request::SetOrigin { ox, oy } => {
+                self.in_force()?;
+                origin_reply(ox, oy)
+            }
+            Request::AskNumber { i } => cell_reply(self.in_force()?, i),
+            Request::AskSquare { x, y } => number_reply(self.in_force()?, x, y),
+        }
+    }
+
+    // The clerk after an ORIGIN line, which sets the origin or leaves no area.
+    fn with_origin(self, ox: i32, oy: i32) -> Clerk
+        ensures { result.area ≡ with_origin self.area ox oy }
+    {
+        match self.area {
+            Some(area) if terms::accepts_origin(ox, oy) => Clerk {
+                area: Some(Area { ox, oy, ..area }),
+            },
+            _ => Clerk::new(),
+        }
+    }
+
+    // The clerk after a line.
+    fn after(self, line: &[u8], asked: Result<Request, Refusal>) -> Clerk
+        ensures { result.area ≡ clerk_after self.area (begins_setting line.now) asked }
+    {
+        match asked {
+            Ok(Request::SetArea { w, h }) => clerk_under(terms::at_post(w, h)),
+            Ok(Request::SetOrigin { ox, oy }) => self.with_origin(ox, oy),
+            Err(_) if lines::begins_setting(line) => Clerk::new(),
+            _ => self,
+        }
+    }
+
     // Takes a line, and hands the clerk back with the reply.
     pub fn handle(self, line: &[u8]) -> Handled
-        ensures clerk { result.clerk ≡ after self line.now }
-        ensures reply { said result.reply ≡ reply self line.now }
+        ensures clerk { result.clerk.area ≡ after self.area line.now }
+        ensures reply { said result.reply ≡ reply self.area line.now }
     {
-        let before = counted(self);
+        let before = self.counted();
         let asked = lines::request_of(line);
-        let reply = reply_to(before, asked);
-        let clerk = clerk_after(before, line, asked);
         Handled {
-            clerk: clerk,
-            reply: reply,
+            clerk: before.after(line, asked),
+            reply: before.reply_to(asked),
         }
     }
 }

@@ -7,6 +7,6 @@ use Rattle.clerk.proofs.area_reply.Goals as goal
 pub overflow_mul-result : goal.overflow_mul-result
 overflow_mul-result c =
     record {
-      fits = found_fits c.args.w c.args.h c.in-Found.x c.in-Found.y
-          (ap finish_figures (sym c.in-Found.is) ∙ c.finish_square.ensures ∙ ap finish_square_at c.at_post.ensures);
+      fits = found_fits c.args.w c.args.h c.in_ok-x.field-0
+          (ap finish_figures (sym c.in_ok-x.was) ∙ c.finish_square.ensures ∙ ap finish_square_at c.at_post.ensures);
     }

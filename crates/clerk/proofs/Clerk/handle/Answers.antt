@@ -9,10 +9,10 @@ pub returns-clause-clerk : goal.returns-clause-clerk
 unfolding after
 returns-clause-clerk c =
     let asked = request_one c.request_of-asked.result (request c.args.line.now) c.request_of-asked.ensures.figures refl in
-    c.clerk_after-clerk.ensures ∙ ap₂ (λ held q. clerk_after held (begins_setting c.args.line.now) q) c.counted-before.ensures asked
+    c.after.ensures ∙ ap₂ (λ held q. clerk_after held (begins_setting c.args.line.now) q) c.counted-before.ensures asked
 
 pub returns-clause-reply : goal.returns-clause-reply
 unfolding reply
 returns-clause-reply c =
     let asked = request_one c.request_of-asked.result (request c.args.line.now) c.request_of-asked.ensures.figures refl in
-    c.reply_to-reply.ensures ∙ ap₂ reply_to c.counted-before.ensures asked
+    c.reply_to.ensures ∙ ap₂ reply_to c.counted-before.ensures asked
