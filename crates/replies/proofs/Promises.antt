@@ -3,7 +3,7 @@
 use mathlib.Core.Bool.{true, true≢false}
 use mathlib.Core.List.{List, [], ◌∷◌, ◌++◌, map, append-nil, append_assoc}
 use mathlib.Core.Path.{◌≡◌, refl, sym, ap, ◌∙◌}
-use Prim.Native.Nat.{ℕ, ◌+◌}
+use Prim.Native.Nat.{ℕ}
 use native.Mathlib.Omega.{arith}
 use lib.Dec.{leb}
 use lib.IntN.{ℤ, pos, negsuc}
@@ -57,11 +57,11 @@ pub writes_one : {before bytes one other : List ℕ} {at end end' : ℕ} → Wri
 writes_one w w' = (w.written ∙ sym w'.written, w.behind ∙ sym w'.behind)
 
 -- Of `has_room`: one that always finds room, and one that asks for a single byte.
-pub always_room : ((at size : ℕ) → true ≡ leb (at + longest) size) → ⊥
-always_room promise = true≢false (promise 0 0)
+pub always_room : ((size : ℕ) → true ≡ leb longest size) → ⊥
+always_room promise = true≢false (promise 0)
 
-pub room_for_a_byte : ((at size : ℕ) → leb (at + 1) size ≡ leb (at + longest) size) → ⊥
-room_for_a_byte promise = true≢false (promise 0 1)
+pub room_for_a_byte : ((size : ℕ) → leb 1 size ≡ leb longest size) → ⊥
+room_for_a_byte promise = true≢false (promise 1)
 
 -- Of `write_reply` and `write_stop`: one that writes nothing, and one that writes the same for every line.
 abbrev buffer : List ℕ

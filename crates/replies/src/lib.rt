@@ -1,176 +1,158 @@
 // Replies as text: written to a lent buffer, with the line's number.
 #![tactic(auto)]
 
-ghost use Rattle.std.specs.Prelude.{[], ◌∷◌, ◌++◌, ◌+◌, ◌*◌, ◌≤◌, ◌≡◌, leb, pos, length};
-ghost use Rattle.terms.specs.Terms.{in_signs};
+ghost use Rattle.std.specs.Prelude.{[], ◌∷◌, ◌++◌, ◌+◌, ◌≤◌, ◌≡◌, leb, pos, length};
+ghost use Rattle.arrayvec.specs.ArrayVec.{array_vec_len};
 ghost use Rattle.clerk.specs.Clerk.{said};
-ghost use Rattle.words.specs.Decimal.{decimal};
 ghost use Rattle.replies.specs.Text.{spaced, all_spaced, body, text, stop, longest, longest_spaced, longest_pair, longest_body, Writes, if_room};
 
+use arrayvec::ArrayVec;
 use clerk::Reply;
+use itoa::{Buffer, Integer};
+use terms::Refusal;
 
 // The longest text: a line's number and a reply with five numbers, each of ten digits, two of them with a minus.
 const LONGEST: usize = 73;
 
-// Copies bytes.
-fn put_bytes(out: &mut [u8], at: usize, s: &[u8]) -> usize
-    requires { at + length s.now ≤ length out.old }
-    ensures { Writes out.old at s.now out.new result }
+// A text that is put together. (`write!` promises its bytes only where it answers Ok, and no clause of the library says where it does.)
+type Text = ArrayVec<u8, LONGEST>;
+
+// Puts bytes behind a text.
+fn put(text: &mut Text, bytes: &[u8])
+    requires { array_vec_len text.old + length bytes.now ≤ longest }
+    ensures written { text.new.items ≡ text.old.items ++ bytes.now }
+    ensures len { array_vec_len text.new ≡ array_vec_len text.old + length bytes.now }
 {
-    for i in 0..s.len() {
-        out[at + i] = s[i];
-    }
-    at + s.len()
+    let _ = text.try_extend_from_slice(bytes);
 }
 
-// A number in decimal: the digits before the last, then the last.
-fn put_number(out: &mut [u8], at: usize, n: u32) -> usize
-    requires { at + length (decimal n) ≤ length out.old }
-    ensures { Writes out.old at (decimal n) out.new result }
+// Puts a number behind it, in decimal.
+fn put_number<N: Integer>(text: &mut Text, n: N)
+    requires { array_vec_len text.old + N.MAX_STR_LEN ≤ longest }
+    ensures written { text.new.items ≡ text.old.items ++ N.text n }
+    ensures short { array_vec_len text.new ≤ array_vec_len text.old + N.MAX_STR_LEN }
 {
-    if n < 10 {
-        out[at] = (48 + n) as u8;
-        return at + 1;
-    }
-    let last = put_number(out, at, n / 10);
-    out[last] = (48 + n % 10) as u8;
-    last + 1
+    put(text, Buffer::new().format(n).as_bytes());
 }
 
 // A space and a number.
-fn put_spaced(out: &mut [u8], at: usize, n: u32) -> usize
-    requires { at + longest_spaced ≤ length out.old }
-    ensures written { Writes out.old at (spaced (pos n)) out.new result }
-    ensures short { result ≤ at + longest_spaced }
+fn put_spaced(text: &mut Text, n: u32)
+    requires { array_vec_len text.old + longest_spaced ≤ longest }
+    ensures written { text.new.items ≡ text.old.items ++ spaced (pos n) }
+    ensures short { array_vec_len text.new ≤ array_vec_len text.old + longest_spaced }
 {
-    out[at] = b' ';
-    put_number(out, at + 1, n)
-}
-
-// A space and a signed number: its magnitude is how far it lies from 0, on either side.
-fn put_signed(out: &mut [u8], at: usize, z: i32) -> usize
-    requires { at + longest_spaced + 1 ≤ length out.old }
-    ensures written { Writes out.old at (spaced z) out.new result }
-    ensures short { result ≤ at + longest_spaced + 1 }
-{
-    if z < 0 {
-        let digits = put_bytes(out, at, b" -");
-        return put_number(out, digits, terms::distance(0, z));
-    }
-    put_spaced(out, at, terms::distance(z, 0))
+    put(text, b" ");
+    put_number(text, n);
 }
 
 // The two signed numbers of a square or an origin, each after a space.
-fn put_pair(out: &mut [u8], at: usize, x: i32, y: i32) -> usize
-    requires { at + longest_pair ≤ length out.old }
-    ensures written { Writes out.old at (all_spaced (x ∷ y ∷ [])) out.new result }
-    ensures short { result ≤ at + longest_pair }
+fn put_pair(text: &mut Text, x: i32, y: i32)
+    requires { array_vec_len text.old + longest_pair ≤ longest }
+    ensures written { text.new.items ≡ text.old.items ++ all_spaced (x ∷ y ∷ []) }
+    ensures short { array_vec_len text.new ≤ array_vec_len text.old + longest_pair }
 {
-    let end = put_signed(out, at, x);
-    put_signed(out, end, y)
+    put(text, b" ");
+    put_number(text, x);
+    put(text, b" ");
+    put_number(text, y);
 }
 
-// A word and numbers, each number after a space.
-fn put_said(out: &mut [u8], at: usize, word: &[u8], numbers: &[u32]) -> usize
-    requires { at + length word.now + longest_spaced * length numbers.now ≤ length out.old }
-    ensures written { Writes out.old at (word.now ++ all_spaced (in_signs numbers.now)) out.new result }
-    ensures short { result ≤ at + length word.now + longest_spaced * length numbers.now }
-{
-    let mut end = put_bytes(out, at, word);
-    for i in 0..numbers.len() {
-        end = put_spaced(out, end, numbers[i]);
-    }
-    end
-}
-
-// A reply's word and numbers.
-fn put_body(out: &mut [u8], at: usize, reply: Reply) -> usize
-    requires { at + longest_body ≤ length out.old }
-    ensures written { Writes out.old at (body (said reply)) out.new result }
-    ensures short { result ≤ at + longest_body }
+// A reply's word and numbers, or a refusal's.
+fn put_body(text: &mut Text, reply: Result<Reply, Refusal>)
+    requires { array_vec_len text.old + longest_body ≤ longest }
+    ensures written { text.new.items ≡ text.old.items ++ body (said reply) }
+    ensures short { array_vec_len text.new ≤ array_vec_len text.old + longest_body }
 {
     match reply {
-        Reply::AreaSet {
-            w,
-            h,
-            squares,
-            x,
-            y,
-        } => {
-            let numbers: [u32; 3] = [w, h, squares];
-            let end = put_said(out, at, b" AREA", &numbers[..]);
-            put_pair(out, end, x, y)
+        Ok(
+            Reply::AreaSet {
+                w,
+                h,
+                squares,
+                x,
+                y,
+            },
+        ) => {
+            put(text, b" AREA");
+            put_spaced(text, w);
+            put_spaced(text, h);
+            put_spaced(text, squares);
+            put_pair(text, x, y);
         }
-        Reply::OriginSet { ox, oy } => {
-            let end = put_bytes(out, at, b" ORIGIN");
-            put_pair(out, end, ox, oy)
+        Ok(Reply::OriginSet { ox, oy }) => {
+            put(text, b" ORIGIN");
+            put_pair(text, ox, oy);
         }
-        Reply::Cell { x, y, blocks } => {
-            let behind = put_bytes(out, at, b" CELL");
-            let end = put_pair(out, behind, x, y);
-            put_spaced(out, end, blocks)
+        Ok(Reply::Cell { x, y, blocks }) => {
+            put(text, b" CELL");
+            put_pair(text, x, y);
+            put_spaced(text, blocks);
         }
-        Reply::Number { number, blocks } => {
-            let numbers: [u32; 2] = [number, blocks];
-            put_said(out, at, b" NUMBER", &numbers[..])
+        Ok(Reply::Number { number, blocks }) => {
+            put(text, b" NUMBER");
+            put_spaced(text, number);
+            put_spaced(text, blocks);
         }
-        Reply::Refused(r) => {
-            let numbers: [u32; 1] = [terms::refusal_number(r)];
-            put_said(out, at, b" REFUSED", &numbers[..])
+        Err(refusal) => {
+            put(text, b" REFUSED");
+            put_spaced(text, u32::from(refusal));
         }
     }
 }
 
-// A reply's whole line.
-fn put_line(out: &mut [u8], at: usize, line: u32, reply: Reply) -> usize
-    requires { at + longest ≤ length out.old }
-    ensures written { Writes out.old at (text line (said reply)) out.new result }
-    ensures short { result ≤ at + longest }
+// The text of a reply to a line.
+fn reply_text(line: u32, reply: Result<Reply, Refusal>) -> Text
+    ensures { result.items ≡ text line (said reply) }
 {
-    let a = put_number(out, at, line);
-    let b = put_body(out, a, reply);
-    out[b] = b'\n';
-    b + 1
+    let mut text = Text::new();
+    put_number(&mut text, line);
+    put_body(&mut text, reply);
+    put(&mut text, b"\n");
+    text
 }
 
-// The line after which none is read.
-fn put_stop(out: &mut [u8], at: usize, line: u32) -> usize
-    requires { at + longest ≤ length out.old }
-    ensures written { Writes out.old at (stop line) out.new result }
-    ensures short { result ≤ at + longest }
+// The text for the line after which none is read.
+fn stop_text(line: u32) -> Text
+    ensures { result.items ≡ stop line }
 {
-    let a = put_number(out, at, line);
-    put_bytes(out, a, b" STOP\n")
+    let mut text = Text::new();
+    put_number(&mut text, line);
+    put(&mut text, b" STOP\n");
+    text
 }
 
-// Whether a buffer has room for the longest text after a place.
-pub fn has_room(out: &[u8], at: usize) -> bool
-    ensures { result ≡ leb (at + longest) (length out.now) }
+// Whether a buffer has room for the longest text.
+pub fn has_room(out: &[u8]) -> bool
+    ensures { result ≡ leb longest (length out.now) }
 {
-    if out.len() < at {
-        return false;
+    LONGEST <= out.len()
+}
+
+// Writes a text at the front of a buffer, and says how long it is; or nothing, if the longest text would not fit.
+fn write(out: &mut [u8], text: &Text) -> usize
+    ensures written { Writes out.old 0 (if_room out.old 0 text.now.items) out.new result }
+    ensures short { result ≤ longest }
+{
+    if !has_room(out) {
+        return 0;
     }
-    LONGEST <= out.len() - at
+    let n = text.len();
+    out[..n].copy_from_slice(text.as_slice());
+    n
 }
 
-// Writes the reply to a line at a place of a buffer, and says which place is after it. Nothing is written if the longest text would not fit.
-pub fn write_reply(out: &mut [u8], at: usize, line: u32, reply: Reply) -> usize
-    ensures written { Writes out.old at (if_room out.old at (text line (said reply))) out.new result }
-    ensures short { result ≤ at + longest }
+// Writes the reply to a line at the front of a buffer, and says how long it is. Nothing is written if the longest text would not fit.
+pub fn write_reply(out: &mut [u8], line: u32, reply: Result<Reply, Refusal>) -> usize
+    ensures written { Writes out.old 0 (if_room out.old 0 (text line (said reply))) out.new result }
+    ensures short { result ≤ longest }
 {
-    if !has_room(out, at) {
-        return at;
-    }
-    put_line(out, at, line, reply)
+    write(out, &reply_text(line, reply))
 }
 
 // The same for the line after which none is read.
-pub fn write_stop(out: &mut [u8], at: usize, line: u32) -> usize
-    ensures written { Writes out.old at (if_room out.old at (stop line)) out.new result }
-    ensures short { result ≤ at + longest }
+pub fn write_stop(out: &mut [u8], line: u32) -> usize
+    ensures written { Writes out.old 0 (if_room out.old 0 (stop line)) out.new result }
+    ensures short { result ≤ longest }
 {
-    if !has_room(out, at) {
-        return at;
-    }
-    put_stop(out, at, line)
+    write(out, &stop_text(line))
 }

@@ -1,11 +1,10 @@
--- `replies::put_pair` meets its contract: one number behind the other.
-use mathlib.Core.List.{◌++◌}
-use mathlib.Core.Path.{ap₂, ◌∙◌}
-use Rattle.terms.proofs.Signs.{kept}
-use Rattle.replies.specs.Text.{spaced}
-use Rattle.replies.proofs.Writing.{writes_as, writes_both, pair_spaced}
+-- `replies::put_pair` meets its contract: one number behind the other, as it is defined.
+use Rattle.std.proofs.Common.{append_assoc}
+use mathlib.Core.List.{append-nil}
+use Rattle.replies.proofs.Writing.{same_signed}
 use Rattle.replies.proofs.put_pair.Goals as goal
 
 pub returns-clause-written : goal.returns-clause-written
-returns-clause-written c = writes_as (ap₂ (λ x y. spaced x ++ spaced y) (kept c.ranges.x) (kept c.ranges.y) ∙ pair_spaced c.args.x c.args.y)
-    (writes_both c.put_signed-end.ensures.written c.put_signed.ensures.written)
+returns-clause-written c =
+    rw (c.put_number-2.ensures.written, c.put-2.ensures.written, c.put_number.ensures.written, c.put.ensures.written)
+    (simp (append_assoc, append-nil, same_signed c.args.x c.ranges.x, same_signed c.args.y c.ranges.y))
