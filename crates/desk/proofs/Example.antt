@@ -9,12 +9,13 @@ use native.Mathlib.Omega.{arith}
 use lib.Dec.{leb, eqb, lit<}
 use lib.IntN.{pos, ◌+ℤ◌}
 use lib.ListN.{drop}
+use Rattle.std.specs.Prelude.{Some, None}
 use Rattle.terms.specs.declared.Refusal.TheVariants.{NumberOutside}
 use Rattle.terms.specs.Terms.{accepted, grid_accepted, answered, refused, in_signs, signed, origin_accepted, at_post}
 use Rattle.division.specs.Division.{Square, whole, blocks_holding}
 use Rattle.division.specs.Division.Worked.{eighth, eighth_held}
 use Rattle.curve.specs.Lookups.{number_to_square_at, square_to_number_at, finish_square_at}
-use Rattle.curve.proofs.Answers.{number_refused_so}
+use Rattle.curve.proofs.Answers.{number_past}
 use Rattle.curve.proofs.Finish.{Elsewhere, narrow, low, finish_found_at, finish_is}
 use Rattle.curve.proofs.Demands.{found, number_answered_at, number_back_at}
 use Rattle.words.specs.Letters.{bytes}
@@ -24,9 +25,7 @@ use Rattle.fields.specs.Fields.{fields}
 use Rattle.lines.specs.Lines.{AREA, ORIGIN, shaped, request}
 use Rattle.words.specs.Decimal.{decimal_by, decimal}
 use Rattle.words.proofs.Same.{same_itself}
-use Rattle.clerk.specs.declared.Clerk.{Clerk}
-use Rattle.clerk.specs.declared.Clerk.TheVariants.{NoArea, InForce}
-use Rattle.clerk.specs.Clerk.{AreaSaid, Cell, Number, Refused, Said, says, from_call, after, reply}
+use Rattle.clerk.specs.Clerk.{InForce, AreaSaid, Cell, Number, Refused, Said, says, from_call, after, reply}
 use Rattle.clerk.proofs.InForce.{in_force}
 use Rattle.clerk.proofs.Areas.{Begun, others_alter_nothing}
 use Rattle.replies.specs.Text.{text}
@@ -47,7 +46,7 @@ number = number_back_at (at_post 3 4) 8 (pos 2) (pos 1) 3 cell
 
 past_the_end : number_to_square_at (at_post 3 4) 12 ≡ signed (refused NumberOutside 3)
 unfolding accepted origin_accepted
-past_the_end = sym (number_refused_so (at_post 3 4) 12 NumberOutside refl)
+past_the_end = sym (number_past (at_post 3 4) 12 refl NumberOutside refl)
 
 -- no area of those that end elsewhere than at (w - 1, 0)
 corner : Elsewhere 3 4 → ⊥
@@ -64,16 +63,16 @@ abbrev pub printed : String
 printed = "1 AREA 3 4 12 2 0\n2 CELL 2 1 3\n3 NUMBER 8 3\n4 REFUSED 5\n5 REFUSED 3\n"
 
 -- one line answered, and the rest with the area then in force
-line_answered : (clerk : Clerk) (n : ℕ) (line : List ℕ) (lines : List (List ℕ)) (said : Said) (left : Clerk) → leb n last_answered ≡ true
-    → reply clerk line ≡ said → after clerk line ≡ left → answers clerk n (line ∷ lines) ≡ text n said ++ answers left (n + 1) lines
+line_answered : (held : InForce) (n : ℕ) (line : List ℕ) (lines : List (List ℕ)) (said : Said) (left : InForce) → leb n last_answered ≡ true
+    → reply held line ≡ said → after held line ≡ left → answers held n (line ∷ lines) ≡ text n said ++ answers left (n + 1) lines
 unfolding answers
-line_answered clerk n line lines said left l r a = rw l (ap₂ (λ s c. text n s ++ answers c (n + 1) lines) r a)
+line_answered held n line lines said left l r a = rw l (ap₂ (λ s c. text n s ++ answers c (n + 1) lines) r a)
 
-three_by_four : Clerk
-three_by_four = InForce (at_post 3 4)
+three_by_four : InForce
+three_by_four = Some (at_post 3 4)
 
 -- the five replies, and that only the first line alters the area
-set : reply NoArea (bytes "AREA 3 4") ≡ says AreaSaid (in_signs (3 ∷ 4 ∷ 12 ∷ 2 ∷ 0 ∷ []))
+set : reply None (bytes "AREA 3 4") ≡ says AreaSaid (in_signs (3 ∷ 4 ∷ 12 ∷ 2 ∷ 0 ∷ []))
 unfolding reply request shaped fields same_bytes numeral is_number all_digits value_on in_signs
 set = ap (from_call AreaSaid (in_signs (3 ∷ 4 ∷ 12 ∷ []))) finish
 
@@ -93,7 +92,7 @@ too_high : reply three_by_four (bytes "N 12") ≡ says Refused (in_signs (3 ∷ 
 unfolding three_by_four reply request shaped fields same_bytes numeral is_number all_digits value_on in_signs accepted origin_accepted
 too_high = ap (from_call Cell []) past_the_end
 
-sets_it : after NoArea (bytes "AREA 3 4") ≡ three_by_four
+sets_it : after None (bytes "AREA 3 4") ≡ three_by_four
 unfolding three_by_four after request shaped fields same_bytes numeral is_number all_digits value_on accepted origin_accepted
 sets_it = refl
 
@@ -140,7 +139,7 @@ example =
     let fourth = next 4 (bytes "N 3E4") (drop 4 the_lines) printed_5 refl refl refl no_number fifth in
     let third = next 3 (bytes "S 2 1") (drop 3 the_lines) printed_4 refl refl refl asked_square fourth in
     let second = next 2 (bytes "N 8") (drop 2 the_lines) printed_3 refl refl refl asked_number third in
-    ap (answers NoArea 1) cut
-    ∙ line_answered NoArea 1 (bytes "AREA 3 4") (drop 1 the_lines) (said 1) three_by_four refl set sets_it
+    ap (answers None 1) cut
+    ∙ line_answered None 1 (bytes "AREA 3 4") (drop 1 the_lines) (said 1) three_by_four refl set sets_it
     ∙ ap (λ t. text 1 (said 1) ++ t) second
     ∙ joined

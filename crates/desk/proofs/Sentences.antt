@@ -9,9 +9,8 @@ use lib.ListN.{length, get_or, take}
 use Rattle.words.specs.Letters.{bytes}
 use Rattle.fields.specs.Fields.{onto}
 use Rattle.words.specs.Decimal.{decimal_by, decimal}
-use Rattle.clerk.specs.declared.Clerk.{Clerk}
-use Rattle.clerk.specs.declared.Clerk.TheVariants.{NoArea}
-use Rattle.clerk.specs.Clerk.{after, reply}
+use Rattle.std.specs.Prelude.{None}
+use Rattle.clerk.specs.Clerk.{InForce, after, reply}
 use Rattle.replies.specs.Text.{text, stop}
 use Rattle.desk.specs.Desk.{last_answered, lines_of, answers, output}
 
@@ -43,42 +42,42 @@ unfolding lines_of
 no_bytes_no_line = refl
 
 -- "prints for each line its number from 1" and its reply, with the area that the lines before it left in force.
-unfoldable pub replied : Clerk → (n : ℕ) → List (List ℕ) → List ℕ
-replied clerk n [] = []
-replied clerk n (line ∷ lines) = text n (reply clerk line) ++ replied (after clerk line) (n + 1) lines
+unfoldable pub replied : InForce → (n : ℕ) → List (List ℕ) → List ℕ
+replied held n [] = []
+replied held n (line ∷ lines) = text n (reply held line) ++ replied (after held line) (n + 1) lines
 
-all_replied : (k n : ℕ) (clerk : Clerk) (lines : List (List ℕ)) → n + k ≡ 65536 → length lines ≤ k → answers clerk n lines ≡ replied clerk n lines
+all_replied : (k n : ℕ) (held : InForce) (lines : List (List ℕ)) → n + k ≡ 65536 → length lines ≤ k → answers held n lines ≡ replied held n lines
 unfolding answers replied
-all_replied k n clerk [] e l = refl
-all_replied zero n clerk (line ∷ lines) e l = absurd (omega arith)
-all_replied (suc k) n clerk (line ∷ lines) e l =
+all_replied k n held [] e l = refl
+all_replied zero n held (line ∷ lines) e l = absurd (omega arith)
+all_replied (suc k) n held (line ∷ lines) e l =
     rw (le-leb n last_answered (omega arith))
-    (ap (λ t. text n (reply clerk line) ++ t) (all_replied k (n + 1) (after clerk line) lines (omega arith) (omega arith)))
+    (ap (λ t. text n (reply held line) ++ t) (all_replied k (n + 1) (after held line) lines (omega arith) (omega arith)))
 
-replied_then_stop : (k n : ℕ) (clerk : Clerk) (lines : List (List ℕ)) → n + k ≡ 65536 → k < length lines
-    → answers clerk n lines ≡ replied clerk n (take k lines) ++ stop 65536
+replied_then_stop : (k n : ℕ) (held : InForce) (lines : List (List ℕ)) → n + k ≡ 65536 → k < length lines
+    → answers held n lines ≡ replied held n (take k lines) ++ stop 65536
 unfolding answers replied
-replied_then_stop k n clerk [] e l = absurd (omega arith)
-replied_then_stop zero n clerk (line ∷ lines) e l =
+replied_then_stop k n held [] e l = absurd (omega arith)
+replied_then_stop zero n held (line ∷ lines) e l =
     let last : n ≡ 65536 = omega arith in
     rw (lt-leb n last_answered (omega arith)) (ap stop last)
-replied_then_stop (suc k) n clerk (line ∷ lines) e l =
+replied_then_stop (suc k) n held (line ∷ lines) e l =
     rw (le-leb n last_answered (omega arith))
-    (ap (λ t. text n (reply clerk line) ++ t) (replied_then_stop k (n + 1) (after clerk line) lines (omega arith) (omega arith))
-    ∙ sym (append_assoc (text n (reply clerk line)) (replied (after clerk line) (n + 1) (take k lines)) (stop 65536)))
+    (ap (λ t. text n (reply held line) ++ t) (replied_then_stop k (n + 1) (after held line) lines (omega arith) (omega arith))
+    ∙ sym (append_assoc (text n (reply held line)) (replied (after held line) (n + 1) (take k lines)) (stop 65536)))
 
 stop_text : stop 65536 ≡ bytes "65536 STOP\n"
 unfolding stop decimal decimal_by
 stop_text = refl
 
 -- An input of up to 65,535 lines has a reply to each. "none is in force at the start"
-pub each_line_answered : (input : List ℕ) → length (lines_of input) ≤ last_answered → output input ≡ replied NoArea 1 (lines_of input)
+pub each_line_answered : (input : List ℕ) → length (lines_of input) ≤ last_answered → output input ≡ replied None 1 (lines_of input)
 unfolding output
-each_line_answered input l = all_replied last_answered 1 NoArea (lines_of input) refl l
+each_line_answered input l = all_replied last_answered 1 None (lines_of input) refl l
 
 -- "If there is a line 65,536 it prints 65536 STOP for it, and reads no more": the lines before it have their replies, and nothing follows.
 pub stops_at_65536 : (input : List ℕ) → last_answered < length (lines_of input)
-    → output input ≡ replied NoArea 1 (take last_answered (lines_of input)) ++ bytes "65536 STOP\n"
+    → output input ≡ replied None 1 (take last_answered (lines_of input)) ++ bytes "65536 STOP\n"
 unfolding output
 stops_at_65536 input l =
-    replied_then_stop last_answered 1 NoArea (lines_of input) refl l ∙ ap (λ t. replied NoArea 1 (take last_answered (lines_of input)) ++ t) stop_text
+    replied_then_stop last_answered 1 None (lines_of input) refl l ∙ ap (λ t. replied None 1 (take last_answered (lines_of input)) ++ t) stop_text

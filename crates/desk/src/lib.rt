@@ -2,12 +2,11 @@
 #![tactic(auto)]
 
 ghost use Rattle.std.specs.Prelude.{◌≡◌, ◌+◌, ◌≤◌, length};
-ghost use Rattle.clerk.specs.Clerk.{after};
 ghost use Rattle.replies.specs.Text.{longest, Writes, if_room};
 ghost use Rattle.desk.specs.Desk.{last_answered};
-ghost use Rattle.desk.specs.Steps.{kept_bytes, begun_line, reply_text, at_first, stopped, behind_newline, longer, with_byte};
-ghost use Rattle.desk.specs.Steps.{next_desk, next_kept, prints, in_order, prints_last_any, Feeds};
+ghost use Rattle.desk.specs.Steps.{reply_text, at_first, stopped, behind_newline, longer, next_desk, prints, prints_last, Feeds};
 
+use arrayvec::ArrayVec;
 use clerk::Clerk;
 
 // How many bytes of a line are kept: a line of over 64 is refused, whatever it says, so they decide.
@@ -16,224 +15,119 @@ pub const KEPT: usize = 65;
 // The last line that is answered.
 const LAST_ANSWERED: u32 = 65535;
 
-// Where the desk stands: the clerk, the number of the line that is begun or next, how many bytes of it are kept, and whether it is closed: no more is read.
-#[derive(Clone, Copy)]
+// Where the desk stands: the clerk, the number of the line that is begun or next, the bytes of it that are kept, and whether it is closed: no more is read.
+// That is a flag, since a closed desk still has its line and its clerk.
+#[derive(Clone, Drop)]
 pub struct Desk {
     pub clerk: Clerk,
     pub line: u32,
-    pub begun: usize,
+    pub begun: ArrayVec<u8, KEPT>,
     pub closed: bool,
 }
 
-// The desk after a byte, and the place after what was written.
-#[derive(Clone, Copy)]
-struct Stepped {
-    desk: Desk,
-    at: usize,
-}
-
-// A desk before its first byte.
-pub fn opened() -> Desk
-    ensures { result ≡ at_first }
-{
-    Desk {
-        clerk: Clerk::NoArea,
-        line: 1,
-        begun: 0,
-        closed: false,
-    }
-}
-
-// A desk that reads no more.
-pub fn closed(desk: Desk) -> Desk
-    ensures { result ≡ stopped desk }
-{
-    let clerk = desk.clerk;
-    Desk {
-        clerk: clerk,
-        line: desk.line,
-        begun: desk.begun,
-        closed: true,
-    }
-}
-
-// A byte of a line is kept, if it is among those that decide.
-fn keep(desk: Desk, kept: &mut [u8], b: u8) -> Desk
-    requires { kept_bytes ≤ length kept.old }
-    ensures counted { result ≡ longer desk }
-    ensures stored { kept.new ≡ with_byte desk kept.old b }
-{
-    let clerk = desk.clerk;
-    let begun = desk.begun;
-    if KEPT <= begun {
-        return desk;
-    }
-    kept[begun] = b;
-    Desk {
-        clerk: clerk,
-        line: desk.line,
-        begun: begun + 1,
-        closed: false,
-    }
-}
-
-// The clerk after a line, and the place after the reply to it.
-#[derive(Clone, Copy)]
-struct Replied {
-    clerk: Clerk,
-    at: usize,
-}
-
-// The reply to the line that is begun is written.
-fn reply_begun(desk: Desk, kept: &[u8], out: &mut [u8], at: usize) -> Replied
-    requires counted { desk.begun ≤ kept_bytes }
-    requires place { kept_bytes ≤ length kept.now }
-    ensures left { result.clerk ≡ after desk.clerk (begun_line desk kept.now) }
-    ensures written { Writes out.old at (if_room out.old at (reply_text desk kept.now)) out.new result.at }
-    ensures short { result.at ≤ at + longest }
-{
-    let clerk = desk.clerk;
-    let begun = desk.begun;
-    let handled = clerk.handle(&kept[..begun]);
-    let behind = handled.clerk;
-    let reply = handled.reply;
-    let end = replies::write_reply(out, at, desk.line, reply);
-    Replied {
-        clerk: behind,
-        at: end,
-    }
-}
-
-// The line that is begun is answered, and the next one is begun.
-fn answer(desk: Desk, kept: &[u8], out: &mut [u8], at: usize) -> Stepped
-    requires counted { desk.begun ≤ kept_bytes }
-    requires place { kept_bytes ≤ length kept.now }
-    requires answered { desk.line ≤ last_answered }
-    ensures next { result.desk ≡ behind_newline desk kept.now }
-    ensures written { Writes out.old at (if_room out.old at (reply_text desk kept.now)) out.new result.at }
-    ensures short { result.at ≤ at + longest }
-{
-    let replied = reply_begun(desk, kept, out, at);
-    let clerk = replied.clerk;
-    let next = Desk {
-        clerk: clerk,
-        line: desk.line + 1,
-        begun: 0,
-        closed: false,
-    };
-    Stepped {
-        desk: next,
-        at: replied.at,
-    }
-}
-
-// One byte.
-fn step(desk: Desk, kept: &mut [u8], b: u8, out: &mut [u8], at: usize) -> Stepped
-    requires counted { desk.begun ≤ kept_bytes }
-    requires place { kept_bytes ≤ length kept.old }
-    requires room { at + longest ≤ length out.old }
-    ensures next { result.desk ≡ next_desk desk kept.old b }
-    ensures stored { kept.new ≡ next_kept desk kept.old b }
-    ensures written { Writes out.old at (prints desk kept.old b) out.new result.at }
-    ensures short { result.at ≤ at + longest }
-{
-    if desk.closed {
-        return Stepped { desk: desk, at: at };
-    }
-    if LAST_ANSWERED < desk.line {
-        let end = replies::write_stop(out, at, desk.line);
-        let last = closed(desk);
-        return Stepped {
-            desk: last,
-            at: end,
-        };
-    }
-    if b == b'\n' {
-        return answer(desk, kept, out, at);
-    }
-    let next = keep(desk, kept, b);
-    Stepped { desk: next, at: at }
-}
-
-// The desk after as many bytes of a chunk as there was room to answer, the next of them, and the place after what was written.
+// How many bytes of a chunk a desk took, and how many it wrote for them.
 #[derive(Clone, Copy)]
 pub struct Fed {
-    pub desk: Desk,
-    pub from: usize,
-    pub at: usize,
+    pub taken: usize,
+    pub written: usize,
 }
 
-// Whether a desk has kept what it counts, in a place for as many bytes.
-fn is_in_order(desk: Desk, kept: &[u8]) -> bool
-    ensures { result ≡ in_order desk kept.now }
-{
-    if desk.begun <= KEPT {
-        return KEPT <= kept.len();
-    }
-    false
-}
-
-// Takes the bytes of a chunk from a place on.
-pub fn feed(
-    desk: Desk,
-    kept: &mut [u8],
-    chunk: &[u8],
-    from: usize,
-    out: &mut [u8],
-    at: usize,
-) -> Fed
-    ensures fed { Feeds desk
-        (record { kept = kept.old; chunk = chunk.now; from = from; out = out.old; at = at })
-        (record { desk = result.desk; kept = kept.new; from = result.from; out = out.new; at = result.at }) }
-    ensures within { at ≤ length out.old → result.at ≤ length out.old }
-{
-    let mut d = desk;
-    let mut i = from;
-    let mut p = at;
-    if !is_in_order(desk, kept) {
-        return Fed {
-            desk: d,
-            from: i,
-            at: p,
-        };
-    }
-    while i < chunk.len() {
-        if !replies::has_room(out, p) {
-            return Fed {
-                desk: d,
-                from: i,
-                at: p,
-            };
+impl Desk {
+    // A desk before its first byte.
+    pub fn opened() -> Desk
+        ensures { result ≡ at_first }
+    {
+        Desk {
+            clerk: Clerk::new(),
+            line: 1,
+            begun: ArrayVec::new(),
+            closed: false,
         }
-        let s = step(d, kept, chunk[i], out, p);
-        d = s.desk;
-        p = s.at;
-        i = i + 1;
     }
-    Fed {
-        desk: d,
-        from: i,
-        at: p,
-    }
-}
 
-// Answers the line that is begun, at the end of the input, or says STOP for a line 65,536.
-pub fn finish(desk: Desk, kept: &[u8], out: &mut [u8], at: usize) -> usize
-    ensures written { Writes out.old at (if_room out.old at (prints_last_any desk kept.now)) out.new result }
-    ensures short { result ≤ at + longest }
-{
-    if !is_in_order(desk, kept) {
-        return at;
+    // It reads no more.
+    pub fn close(&mut self)
+        ensures { self.new ≡ stopped self.old }
+    {
+        self.closed = true;
     }
-    if desk.closed {
-        return at;
+
+    // A byte of a line is kept, if it is among those that decide.
+    fn keep(&mut self, b: u8)
+        ensures { self.new ≡ longer self.old b }
+    {
+        let _ = self.begun.try_push(b);
     }
-    if desk.begun == 0 {
-        return at;
+
+    // The line that is begun is answered, and the next one is begun.
+    fn answer(&mut self, out: &mut [u8]) -> usize
+        requires { self.old.line ≤ last_answered }
+        ensures next { self.new ≡ behind_newline self.old }
+        ensures written { Writes out.old 0 (if_room out.old 0 (reply_text self.old)) out.new result }
+        ensures short { result ≤ longest }
+    {
+        let handled = self.clerk.handle(&self.begun);
+        let written = replies::write_reply(out, self.line, handled.reply);
+        self.clerk = handled.clerk;
+        self.line += 1;
+        self.begun.clear();
+        written
     }
-    if desk.line <= LAST_ANSWERED {
-        let replied = reply_begun(desk, kept, out, at);
-        return replied.at;
+
+    // One byte; how many are written for it.
+    fn step(&mut self, b: u8, out: &mut [u8]) -> usize
+        requires { longest ≤ length out.old }
+        ensures next { self.new ≡ next_desk self.old b }
+        ensures written { Writes out.old 0 (prints self.old b) out.new result }
+        ensures short { result ≤ longest }
+    {
+        if self.closed {
+            return 0;
+        }
+        if LAST_ANSWERED < self.line {
+            self.close();
+            return replies::write_stop(out, self.line);
+        }
+        if b == b'\n' {
+            return self.answer(out);
+        }
+        self.keep(b);
+        0
     }
-    replies::write_stop(out, at, desk.line)
+
+    // Takes the bytes of a chunk one by one, as long as there is room to answer.
+    pub fn feed(&mut self, chunk: &[u8], out: &mut [u8]) -> Fed
+        ensures fed { Feeds self.old
+            (record { chunk = chunk.now; out = out.old })
+            (record { desk = self.new; taken = result.taken; out = out.new; written = result.written }) }
+        ensures among { result.taken ≤ length chunk.now }
+        ensures within { result.written ≤ length out.old }
+    {
+        let mut written = 0;
+        for (taken, b) in chunk.iter().enumerate() {
+            if !replies::has_room(&out[written..]) {
+                return Fed { taken, written };
+            }
+            written += self.step(*b, &mut out[written..]);
+        }
+        Fed {
+            taken: chunk.len(),
+            written,
+        }
+    }
+
+    // Answers the line that is begun, at the end of the input, or says STOP for a line 65,536.
+    pub fn finish(&self, out: &mut [u8]) -> usize
+        ensures written { Writes out.old 0 (if_room out.old 0 (prints_last self.now)) out.new result }
+        ensures short { result ≤ longest }
+    {
+        if self.closed || self.begun.is_empty() {
+            return 0;
+        }
+        if self.line <= LAST_ANSWERED {
+            let handled = self.clerk.handle(&self.begun);
+            return replies::write_reply(out, self.line, handled.reply);
+        }
+        replies::write_stop(out, self.line)
+    }
 }

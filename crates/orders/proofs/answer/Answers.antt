@@ -1,18 +1,18 @@
--- Each turn goes on from where the last one left the desk; after them `finish` writes what is left.
-use Rattle.std.proofs.Common.{arith, refl}
-use Rattle.orders.proofs.Serving.{not_begun, turned, whole}
+-- Each read goes on from where the last one left the desk; after them `finish` writes what is left.
+use Rattle.std.proofs.Common.{arith, inl, inr}
+use Rattle.std.proofs.lemmas.Result.{on_ok_weaker}
+use Rattle.orders.proofs.Serving.{read_on, whole}
 use Rattle.orders.proofs.answer.Goals as goal
+use Rattle.orders.proofs.answer.Goals.{then-n-eq0-via-then-n-eq0, then-n-eq0-via-else-n-eq0+then-desk}
 
-pub loop-turns-init : goal.loop-turns-init
-loop-turns-init g c = record { ordered = rw c.opened-d.ensures refl; answered = not_begun _ _ _ c.opened-d.ensures }
+pub loop-preserved : goal.loop-preserved
+loop-preserved g c = read_on c.loop.invariant c.in_ok-n.ensures.bytes c.in_ok-serve.ensures
 
-pub loop-turns-preserved : goal.loop-turns-preserved
-loop-turns-preserved g c = record {
-  ordered = c.turn-t.ensures.ordered;
-  answered = turned c.loop-turns.invariant.answered (c.turn-t.ensures.answered c.if-t.false (omega arith));
-}
-
-pub returns : goal.returns
-returns g c =
-    λ e. whole c.finish-end.ensures.written c.finish-end.ensures.short (omega arith) _ (omega arith) c.loop-turns.invariant.answered c.if-more.false
-    (c.write.ensures e)
+pub returns-then-n-eq0 : goal.returns-then-n-eq0
+returns-then-n-eq0 g c =
+    let turns = read_on c.loop.invariant c.in_ok-n.ensures.bytes c.in_ok-serve.ensures in
+    on_ok_weaker _ (whole c.finish-end.ensures.written c.finish-end.ensures.short (omega arith) _ turns
+    (elim c.then-n-eq0.branch [
+      | then-n-eq0-via-then-n-eq0 w ↦ inr (c.in_ok-n.ensures.end w.if-n-eq0.true (omega arith))
+      | then-n-eq0-via-else-n-eq0+then-desk w ↦ inl w.if-desk.true
+    ])) c.write.ensures

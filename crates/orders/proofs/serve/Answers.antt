@@ -1,29 +1,19 @@
--- What `feed` promises keeps the desk in order and takes a byte, and what is written of it is what is printed; a closed desk is as much in order as it was.
-use Rattle.std.proofs.Common.{arith, ap, ◌∙◌}
-use Rattle.desk.specs.declared.Desk.{Desk}
-use Rattle.desk.specs.Steps.{in_order}
-use Rattle.desk.proofs.Progress.{stays_in_order, goes_on}
-use Rattle.orders.proofs.Serving.{none_yet, fed_on, all_fed}
+-- What `feed` promises takes a byte at least, and what is written of it is what is printed for it.
+use Rattle.std.proofs.Common.{arith, sym, ap, ◌∙◌, length, length-drop}
+use borrow.Author.Tests.{eqb-false}
+use Rattle.std.proofs.lemmas.List.{take_rest}
+use Rattle.desk.proofs.Progress.{goes_on}
+use Rattle.orders.proofs.Serving.{fed_on}
 use Rattle.orders.proofs.serve.Goals as goal
 
-pub loop-from-init : goal.loop-from-init
-loop-from-init g c = record { ordered = c.requires.ordered; answered = none_yet _ _ _ _ }
+pub loop-left-preserved : goal.loop-left-preserved
+loop-left-preserved g c =
+    let f = c.feed-fed.ensures in
+    (omega arith, rw take_rest (fed_on f.fed f.within c.loop-left.invariant.1 c.in_ok-write.ensures))
 
-pub returns-then-not-write-clause-ordered : goal.returns-then-not-write-clause-ordered
-returns-then-not-write-clause-ordered g c =
-    ap (λ (d : Desk). in_order d c.feed-f.new.kept) c.closed.ensures
-    ∙ stays_in_order c.feed-f.ensures.fed c.loop-from.invariant.ordered
-
-pub loop-from-smaller : goal.loop-from-smaller
-loop-from-smaller g c =
-    let more = goes_on c.feed-f.ensures.fed c.loop-from.invariant.ordered (omega arith) c.loop-from-test.true in
-    omega arith
-
-pub loop-from-preserved : goal.loop-from-preserved
-loop-from-preserved g c = record {
-  ordered = stays_in_order c.feed-f.ensures.fed c.loop-from.invariant.ordered;
-  answered = fed_on c.feed-f.ensures.fed c.feed-f.ensures.within c.loop-from.invariant.answered (c.write.ensures c.if-not-write.false);
-}
-
-pub returns : goal.returns
-returns g c = record { ordered = c.loop-from.invariant.ordered; answered = λ e. all_fed (omega arith) c.loop-from.invariant.answered }
+pub loop-left-smaller : goal.loop-left-smaller
+loop-left-smaller g c =
+    let left = c.loop-left.left.now in
+    let some = eqb-false (length left) 0 (sym c.is_empty.ensures ∙ c.loop-left-test.true) in
+    let more = goes_on c.feed-fed.ensures.fed (omega arith) (omega arith) in
+    omega (arith, length-drop c.feed-fed.result.taken left, ap length (take_rest left c.feed-fed.result.taken))
