@@ -23,8 +23,7 @@ use Rattle.tables.proofs.Promises.{number_holds, kinds_inverse, that_length_fill
 use Rattle.sectors.specs.Sectors.{words_of, bytes_of, sum, sealed, packed, good, first_bad}
 use Rattle.layouts.specs.Layouts.{card_of, card}
 use Rattle.cards.specs.Cards.{write, read}
-use Rattle.clerk.specs.declared.Clerk.{Clerk}
-use Rattle.clerk.specs.Clerk.{Refused, reply}
+use Rattle.clerk.specs.Clerk.{InForce, Refused, reply}
 use Rattle.boundary.specs.Boundary.{returned, written, filled, area_at}
 use Rattle.boundary.specs.Handling.{shown, handled_by}
 use Rattle.boundary.specs.Calls.{write_card_call, read_card_call}
@@ -63,8 +62,8 @@ module _ (w h : ℕ) (ox oy : ℤ) where
         ap (λ ds. get_or ds (y * w + x) 0) (filled_so w h t (by_square w h) (that_length_filled w h t ok size)) ∙ by_square_due x y n k e
 
 -- "the number, all else 0", of a line: after the area in force stand zeros where the line is refused.
-pub refused_rest_0 : (clerk : Clerk) (line : List ℕ) → (reply clerk line).word ≡ Refused → drop 4 (handled_by clerk line).values ≡ replicate 4 (pos 0)
-refused_rest_0 clerk line e = ap (λ word. shown word (reply clerk line).numbers) e
+pub refused_rest_0 : (held : InForce) (line : List ℕ) → (reply held line).word ≡ Refused → drop 4 (handled_by held line).values ≡ replicate 4 (pos 0)
+refused_rest_0 held line e = ap (λ word. shown word (reply held line).numbers) e
 
 -- Of any call that writes n values, signed or not: let u and v be two values that differ.
 module _ {A : Type 0} (n : ℕ) (f : FiguresOf A) (u v : A) (differ : u ≡ v → ⊥) where

@@ -20,7 +20,8 @@ use Rattle.tables.proofs.Admitted.{answered_left, refused_left}
 use Rattle.layouts.specs.Layouts.{right_table, card, card_bytes}
 use Rattle.cards.specs.Cards.{measure, write, read, measure_at, write_at, file_after_at, read_at, table_after, table_after_at}
 use Rattle.windows.specs.Windows.{runs_for_window_at, slice_after_at}
-use Rattle.clerk.specs.declared.Reply.TheVariants.{AreaSet, OriginSet, Cell, Number, Refused}
+use Rattle.clerk.specs.declared.Reply.TheVariants.{AreaSet, OriginSet, Cell, Number}
+use Rattle.std.specs.Prelude.{Ok, Err}
 use Rattle.clerk.specs.Clerk.{said, clerk_under, after, reply}
 use Rattle.boundary.specs.Boundary.{returned, written, left, area_at, window_at}
 use Rattle.boundary.specs.Handling.{area_of, handled_figures}
@@ -116,11 +117,11 @@ module _ (w h : ℕ) (ox oy : ℤ) where
       writes_so (runs_for_window_at (area_at w h ox oy) v runs) result runs (slice_after_at (area_at w h ox oy) v runs)
 
   pub line_call_tells : (line : List ℕ) (result : List ℤ) →
-      let clerk = clerk_under (area_at w h ox oy) in
-      Tells 8 (handled_figures (area_of (after clerk line)) (reply clerk line)) result (handle_line_call w h ox oy line result)
+      let held = clerk_under (area_at w h ox oy) in
+      Tells 8 (handled_figures (area_of (after held line)) (reply held line)) result (handle_line_call w h ox oy line result)
   line_call_tells line result =
-      let clerk = clerk_under (area_at w h ox oy) in
-      tells_so 8 (handled_figures (area_of (after clerk line)) (reply clerk line)) result
+      let held = clerk_under (area_at w h ox oy) in
+      tells_so 8 (handled_figures (area_of (after held line)) (reply held line)) result
 
 -- What cards come to, by what is returned: how many bytes one has, "The file is then as it was" where writing is refused, and so the table where reading is.
 module _ (w h : ℕ) where
@@ -163,22 +164,22 @@ module _ (w h : ℕ) where
 -- A line's eight values, by its reply: "w, h, ox and oy of the area in force after the line", then the kind and its numbers, 0 in each place that it has none
 -- for.
 module _ (area : Area) where
-  pub area_shown : (w h squares : ℕ) (x y : ℤ) → handled_figures area (said (AreaSet w h squares x y))
+  pub area_shown : (w h squares : ℕ) (x y : ℤ) → handled_figures area (said (Ok (AreaSet w h squares x y)))
       ≡ record { refusal = 0; values = pos area.w ∷ pos area.h ∷ area.ox ∷ area.oy ∷ pos 1 ∷ pos squares ∷ x ∷ y ∷ [] }
   area_shown w h squares x y = refl
 
-  pub cell_shown : (x y : ℤ) (blocks : ℕ) → handled_figures area (said (Cell x y blocks))
+  pub cell_shown : (x y : ℤ) (blocks : ℕ) → handled_figures area (said (Ok (Cell x y blocks)))
       ≡ record { refusal = 0; values = pos area.w ∷ pos area.h ∷ area.ox ∷ area.oy ∷ pos 2 ∷ x ∷ y ∷ pos blocks ∷ [] }
   cell_shown x y blocks = refl
 
-  pub number_shown : (number blocks : ℕ) → handled_figures area (said (Number number blocks))
+  pub number_shown : (number blocks : ℕ) → handled_figures area (said (Ok (Number number blocks)))
       ≡ record { refusal = 0; values = pos area.w ∷ pos area.h ∷ area.ox ∷ area.oy ∷ pos 3 ∷ pos number ∷ pos blocks ∷ pos 0 ∷ [] }
   number_shown number blocks = refl
 
-  pub origin_shown : (ox oy : ℤ) → handled_figures area (said (OriginSet ox oy))
+  pub origin_shown : (ox oy : ℤ) → handled_figures area (said (Ok (OriginSet ox oy)))
       ≡ record { refusal = 0; values = pos area.w ∷ pos area.h ∷ area.ox ∷ area.oy ∷ pos 4 ∷ ox ∷ oy ∷ pos 0 ∷ [] }
   origin_shown ox oy = refl
 
-  pub refused_shown : (r : Refusal) → handled_figures area (said (Refused r))
+  pub refused_shown : (r : Refusal) → handled_figures area (said (Err r))
       ≡ record { refusal = refusal_number r; values = pos area.w ∷ pos area.h ∷ area.ox ∷ area.oy ∷ pos 0 ∷ pos 0 ∷ pos 0 ∷ pos 0 ∷ [] }
   refused_shown r = refl

@@ -2,9 +2,8 @@
 -- reads what it gets. It renders no sentence of the documents: what it comes to is said beside the clerk's own replies.
 use Rattle.std.specs.Prelude.{cond, List, [], ◌∷◌, ◌≡◌, ℕ, eqb, ℤ, pos, nat_abs, get_or}
 use Rattle.terms.specs.declared.Area.{Area}
-use Rattle.clerk.specs.declared.Clerk.{Clerk}
 use Rattle.clerk.specs.declared.Handled.{Handled}
-use Rattle.clerk.specs.Clerk.{AreaSaid, OriginSaid, Cell, Number, Refused, Said, says, said, after, reply}
+use Rattle.clerk.specs.Clerk.{InForce, AreaSaid, OriginSaid, Cell, Number, Refused, Said, says, said, after, reply}
 use Rattle.boundary.specs.Boundary.{area_at}
 use Rattle.boundary.specs.Calls.{Outcome, handle_line_call}
 
@@ -34,13 +33,13 @@ abbrev pub read_off : Outcome ℤ → Said
 read_off call = cond (eqb call.returned 0) (by_kind (nat_abs (nth 4 call.values)) call.values) (says Refused (pos call.returned ∷ []))
 
 -- The clerk's own replies to lines in order, each under the area that the line before it left.
-unfoldable pub replies : Clerk → (lines : List (List ℕ)) → List Said
-replies clerk [] = []
-replies clerk (line ∷ lines) = reply clerk line ∷ replies (after clerk line) lines
+unfoldable pub replies : InForce → (lines : List (List ℕ)) → List Said
+replies held [] = []
+replies held (line ∷ lines) = reply held line ∷ replies (after held line) lines
 
 -- What `handle` of the clerk hands back for lines in order, by its promise.
-pub data Handles : Clerk → (lines : List (List ℕ)) → List Handled → Type 0 where
-  no_lines : {clerk : Clerk} → Handles clerk [] []
-  one_more : {clerk : Clerk} {lines : List (List ℕ)} {rest : List Handled} (line : List ℕ) (done : Handled)
-      → (done.clerk ≡ after clerk line) × (said done.reply ≡ reply clerk line) → Handles done.clerk lines rest
-      → Handles clerk (line ∷ lines) (done ∷ rest)
+pub data Handles : InForce → (lines : List (List ℕ)) → List Handled → Type 0 where
+  no_lines : {held : InForce} → Handles held [] []
+  one_more : {held : InForce} {lines : List (List ℕ)} {rest : List Handled} (line : List ℕ) (done : Handled)
+      → (done.clerk.area ≡ after held line) × (said done.reply ≡ reply held line) → Handles done.clerk.area lines rest
+      → Handles held (line ∷ lines) (done ∷ rest)

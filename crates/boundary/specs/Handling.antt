@@ -1,17 +1,15 @@
 -- What a line comes to for a caller that keeps the area in force as four numbers: document 01's replies "AREA w h n fx fy; CELL x y k; NUMBER i k; REFUSED r",
 -- document 02's "ORIGIN ox oy", and the area in force, as figures.
-use Rattle.std.specs.Prelude.{List, [], ◌∷◌, ◌++◌, ℕ, ℤ, pos, nat_abs, drop, get_or, replicate}
+use Rattle.std.specs.Prelude.{List, [], ◌∷◌, ◌++◌, ℕ, ℤ, pos, nat_abs, drop, get_or, replicate, Some, None}
 use Rattle.terms.specs.declared.Area.{Area}
 use Rattle.terms.specs.Terms.{SignedFigures, at_post}
-use Rattle.clerk.specs.declared.Clerk.{Clerk}
-use Rattle.clerk.specs.declared.Clerk.TheVariants.{NoArea, InForce}
-use Rattle.clerk.specs.Clerk.{Word, AreaSaid, OriginSaid, Cell, Number, Refused, Said, clerk_under, after, reply}
+use Rattle.clerk.specs.Clerk.{InForce, Word, AreaSaid, OriginSaid, Cell, Number, Refused, Said, clerk_under, after, reply}
 use Rattle.boundary.specs.Boundary.{area_at}
 
 -- The area in force; 0 by 0 where there is none.
-abbrev pub area_of : Clerk → Area
-area_of NoArea = at_post 0 0
-area_of (InForce area) = area
+abbrev pub area_of : InForce → Area
+area_of None = at_post 0 0
+area_of (Some area) = area
 
 -- A reply as four numbers. AREA: 1, squares, finish square; its w and h are the area in force. CELL: 2, x, y, blocks. NUMBER: 3, number, blocks, 0.
 -- ORIGIN: 4, ox, oy, 0.
@@ -37,8 +35,8 @@ state area = pos area.w ∷ pos area.h ∷ area.ox ∷ area.oy ∷ []
 abbrev pub handled_figures : Area → Said → SignedFigures
 handled_figures area said = record { refusal = refusal_said said.word said.numbers; values = state area ++ shown said.word said.numbers }
 
-abbrev pub handled_by : Clerk → List ℕ → SignedFigures
-handled_by clerk line = handled_figures (area_of (after clerk line)) (reply clerk line)
+abbrev pub handled_by : InForce → List ℕ → SignedFigures
+handled_by held line = handled_figures (area_of (after held line)) (reply held line)
 
 -- The clerk begins with the caller's area in force, or with none where that area or its origin is not accepted.
 abbrev pub handled : (w h : ℕ) (ox oy : ℤ) → List ℕ → SignedFigures

@@ -6,59 +6,29 @@
 // short is left as it is, and 255 is returned, which is no refusal's number.
 #![tactic(auto)]
 
-ghost use Rattle.std.specs.Prelude.{[], ◌∷◌, ◌++◌, ◌≡◌, ◌≤◌, pos, length, take, drop};
-ghost use Rattle.terms.specs.Terms.{most_blocks};
+ghost use Rattle.std.specs.Prelude.{◌++◌, ◌≡◌, ◌≤◌, length, drop};
 ghost use Rattle.clerk.specs.Clerk.{said};
 ghost use Rattle.tables.specs.Tables.{fill_figures, check_figures};
 ghost use Rattle.cards.specs.Cards.{length_figures, write_figures, read_figures};
 ghost use Rattle.windows.specs.Windows.{runs_figures};
-ghost use Rattle.boundary.specs.Handling.{area_of, shown, refusal_said, state, handled_figures};
+ghost use Rattle.boundary.specs.Handling.{area_of, shown, refusal_said, handled_figures};
 ghost use Rattle.boundary.specs.Calls.{number_to_square_call, square_to_number_call, finish_square_call, runs_for_window_call, handle_line_call};
 ghost use Rattle.boundary.specs.Calls.{fill_by_number_call, fill_by_square_call, check_by_number_call, check_by_square_call};
 ghost use Rattle.boundary.specs.Calls.{card_length_call, write_card_call, read_card_call};
 
 use boundary::SHORT;
-use cards::{LengthAnswer, ReadAnswer, WriteAnswer};
-use clerk::{Clerk, Reply};
-use curve::{FinishAnswer, NumberAnswer, SquareAnswer};
-use tables::{CheckAnswer, FillAnswer};
+use cards::Unread;
+use clerk::{Handled, Reply};
+use leaves::Wrong;
 use terms::{Area, Refusal};
-use windows::{RunsAnswer, Window};
+use windows::{Unwritten, Window};
 
-// The first two, or three, places of a slice.
-fn put_two(res: &mut [u32], x: u32, y: u32)
-    requires { 2 ≤ length res.old }
-    ensures { res.new ≡ x ∷ y ∷ drop 2 res.old }
+// The first places of a slice.
+fn put<T: Copy, const N: usize>(res: &mut [T], values: [T; N])
+    requires { N ≤ length res.old }
+    ensures { res.new ≡ values ++ drop N res.old }
 {
-    res[0] = x;
-    res[1] = y;
-}
-
-fn put_three(res: &mut [u32], x: u32, y: u32, z: u32)
-    requires { 3 ≤ length res.old }
-    ensures { res.new ≡ x ∷ y ∷ z ∷ drop 3 res.old }
-{
-    res[0] = x;
-    res[1] = y;
-    res[2] = z;
-}
-
-// The same for a square, whose x and y have a sign.
-fn put_place(res: &mut [i32], x: i32, y: i32)
-    requires { 2 ≤ length res.old }
-    ensures { res.new ≡ x ∷ y ∷ drop 2 res.old }
-{
-    res[0] = x;
-    res[1] = y;
-}
-
-fn put_square(res: &mut [i32], x: i32, y: i32, blocks: u32)
-    requires { (3 ≤ length res.old) × (blocks ≤ most_blocks) }
-    ensures { res.new ≡ x ∷ y ∷ pos blocks ∷ drop 3 res.old }
-{
-    res[0] = x;
-    res[1] = y;
-    res[2] = blocks as i32;
+    res[..N].copy_from_slice(&values);
 }
 
 // x, y and the count of blocks of a number's square.
@@ -77,15 +47,14 @@ pub extern "C" fn uvalinda_number_to_square(
     if res.len() < 3 {
         return SHORT;
     }
-    let answer = curve::number_to_square(Area { w, h, ox, oy }, number);
-    match answer {
-        SquareAnswer::Found { x, y, blocks } => {
-            put_square(res, x, y, blocks);
+    match curve::number_to_square(Area { w, h, ox, oy }, number) {
+        Ok(s) => {
+            put(res, [s.x, s.y, s.blocks as i32]);
             0
         }
-        SquareAnswer::Refused(r) => {
-            put_square(res, 0, 0, 0);
-            terms::refusal_number(r)
+        Err(r) => {
+            put(res, [0; 3]);
+            u32::from(r)
         }
     }
 }
@@ -107,15 +76,14 @@ pub extern "C" fn uvalinda_square_to_number(
     if res.len() < 2 {
         return SHORT;
     }
-    let answer = curve::square_to_number(Area { w, h, ox, oy }, x, y);
-    match answer {
-        NumberAnswer::Found { number, blocks } => {
-            put_two(res, number, blocks);
+    match curve::square_to_number(Area { w, h, ox, oy }, x, y) {
+        Ok(n) => {
+            put(res, [n.number, n.blocks]);
             0
         }
-        NumberAnswer::Refused(r) => {
-            put_two(res, 0, 0);
-            terms::refusal_number(r)
+        Err(r) => {
+            put(res, [0; 2]);
+            u32::from(r)
         }
     }
 }
@@ -129,33 +97,32 @@ pub extern "C" fn uvalinda_finish_square(w: u32, h: u32, ox: i32, oy: i32, res: 
     if res.len() < 2 {
         return SHORT;
     }
-    let answer = curve::finish_square(Area { w, h, ox, oy });
-    match answer {
-        FinishAnswer::Found { x, y } => {
-            put_place(res, x, y);
+    match curve::finish_square(Area { w, h, ox, oy }) {
+        Ok(s) => {
+            put(res, [s.x, s.y]);
             0
         }
-        FinishAnswer::Refused(r) => {
-            put_place(res, 0, 0);
-            terms::refusal_number(r)
+        Err(r) => {
+            put(res, [0; 2]);
+            u32::from(r)
         }
     }
 }
 
-// A fill's answer: its count of blocks to the first place.
-fn tell_fill(answer: FillAnswer, blocks: &mut [u64]) -> u32
-    requires { 1 ≤ length blocks.old }
-    ensures returned { result ≡ (fill_figures answer).refusal }
-    ensures count { blocks.new ≡ (fill_figures answer).values ++ drop 1 blocks.old }
+// An answer that is a count, of a table's blocks or of a card's bytes: to the first place.
+fn tell_count(answer: Result<u64, Refusal>, count: &mut [u64]) -> u32
+    requires { 1 ≤ length count.old }
+    ensures fill { (result ≡ (fill_figures answer).refusal) × (count.new ≡ (fill_figures answer).values ++ drop 1 count.old) }
+    ensures length { (result ≡ (length_figures answer).refusal) × (count.new ≡ (length_figures answer).values ++ drop 1 count.old) }
 {
     match answer {
-        FillAnswer::Filled { blocks: count } => {
-            blocks[0] = count;
+        Ok(n) => {
+            put(count, [n]);
             0
         }
-        FillAnswer::Refused(r) => {
-            blocks[0] = 0;
-            terms::refusal_number(r)
+        Err(r) => {
+            put(count, [0]);
+            u32::from(r)
         }
     }
 }
@@ -176,7 +143,7 @@ pub extern "C" fn uvalinda_fill_by_number(
         return SHORT;
     }
     let answer = tables::fill_by_number(Area { w, h, ox: 0, oy: 0 }, table);
-    tell_fill(answer, blocks)
+    tell_count(answer, blocks)
 }
 
 // Fills a table by square, and counts the blocks of the division.
@@ -195,27 +162,27 @@ pub extern "C" fn uvalinda_fill_by_square(
         return SHORT;
     }
     let answer = tables::fill_by_square(Area { w, h, ox: 0, oy: 0 }, table);
-    tell_fill(answer, blocks)
+    tell_count(answer, blocks)
 }
 
 // A check's answer: 0 where the table is right, else 1, the first wrong place and the value due there.
-fn tell_check(answer: CheckAnswer, res: &mut [u32]) -> u32
+fn tell_check(answer: Result<Option<Wrong>, Refusal>, res: &mut [u32]) -> u32
     requires { 3 ≤ length res.old }
     ensures returned { result ≡ (check_figures answer).refusal }
     ensures values { res.new ≡ (check_figures answer).values ++ drop 3 res.old }
 {
     match answer {
-        CheckAnswer::Right => {
-            put_three(res, 0, 0, 0);
+        Ok(None) => {
+            put(res, [0; 3]);
             0
         }
-        CheckAnswer::Wrong { place, due } => {
-            put_three(res, 1, place, due);
+        Ok(Some(wrong)) => {
+            put(res, [1, wrong.place, wrong.due]);
             0
         }
-        CheckAnswer::Refused(r) => {
-            put_three(res, 0, 0, 0);
-            terms::refusal_number(r)
+        Err(r) => {
+            put(res, [0; 3]);
+            u32::from(r)
         }
     }
 }
@@ -246,24 +213,6 @@ pub extern "C" fn uvalinda_check_by_square(w: u32, h: u32, table: &[u32], res: &
     tell_check(answer, res)
 }
 
-// The answer to how long a card is: its bytes to the first place.
-fn tell_length(answer: LengthAnswer, bytes: &mut [u64]) -> u32
-    requires { 1 ≤ length bytes.old }
-    ensures returned { result ≡ (length_figures answer).refusal }
-    ensures bytes { bytes.new ≡ (length_figures answer).values ++ drop 1 bytes.old }
-{
-    match answer {
-        LengthAnswer::Bytes { bytes: count } => {
-            bytes[0] = count;
-            0
-        }
-        LengthAnswer::Refused(r) => {
-            bytes[0] = 0;
-            terms::refusal_number(r)
-        }
-    }
-}
-
 // How many bytes the card of an area has.
 #[unsafe(no_mangle)]
 pub extern "C" fn uvalinda_card_length(w: u32, h: u32, bytes: &mut [u64]) -> u32
@@ -274,7 +223,7 @@ pub extern "C" fn uvalinda_card_length(w: u32, h: u32, bytes: &mut [u64]) -> u32
         return SHORT;
     }
     let answer = cards::card_length(Area { w, h, ox: 0, oy: 0 });
-    tell_length(answer, bytes)
+    tell_count(answer, bytes)
 }
 
 // Writes a table as the card of an area.
@@ -289,30 +238,30 @@ pub extern "C" fn uvalinda_write_card(
     ensures returned { result ≡ (write_card_call w h kind table.now file.old).returned }
     ensures file { file.new ≡ (write_card_call w h kind table.now file.old).file }
 {
-    let answer = cards::write_card(Area { w, h, ox: 0, oy: 0 }, kind, table, file);
-    match answer {
-        WriteAnswer::Written => 0,
-        WriteAnswer::Refused(r) => terms::refusal_number(r),
+    match cards::write_card(Area { w, h, ox: 0, oy: 0 }, kind, table, file) {
+        Ok(()) => 0,
+        Err(r) => u32::from(r),
     }
 }
 
 // A reader's answer: the block of a bad check to the first place, 0 where there is none.
-fn tell_read(answer: ReadAnswer, block: &mut [u64]) -> u32
+fn tell_read(answer: Result<(), Unread>, block: &mut [u64]) -> u32
     requires { 1 ≤ length block.old }
     ensures returned { result ≡ (read_figures answer).refusal }
     ensures block { block.new ≡ (read_figures answer).values ++ drop 1 block.old }
 {
     match answer {
-        ReadAnswer::Read => {
-            block[0] = 0;
+        Ok(()) => {
+            put(block, [0]);
             0
         }
-        ReadAnswer::Refused {
-            refusal,
-            block: bad,
-        } => {
-            block[0] = bad;
-            terms::refusal_number(refusal)
+        Err(Unread::BadCheck { block: bad }) => {
+            put(block, [bad]);
+            u32::from(Refusal::BadCheck)
+        }
+        Err(Unread::Refused(r)) => {
+            put(block, [0]);
+            u32::from(r)
         }
     }
 }
@@ -339,23 +288,23 @@ pub extern "C" fn uvalinda_read_card(
 }
 
 // The answer to a window: how many runs there are, to the first place.
-fn tell_runs(answer: RunsAnswer, res: &mut [u32]) -> u32
+fn tell_runs(answer: Result<u32, Unwritten>, res: &mut [u32]) -> u32
     requires { 1 ≤ length res.old }
     ensures returned { result ≡ (runs_figures answer).refusal }
     ensures count { res.new ≡ (runs_figures answer).values ++ drop 1 res.old }
 {
     match answer {
-        RunsAnswer::Found { count } => {
-            res[0] = count;
+        Ok(count) => {
+            put(res, [count]);
             0
         }
-        RunsAnswer::Short { count } => {
-            res[0] = count;
-            terms::refusal_number(Refusal::NoRoom)
+        Err(Unwritten::NoRoom { count }) => {
+            put(res, [count]);
+            u32::from(Refusal::NoRoom)
         }
-        RunsAnswer::Refused(r) => {
-            res[0] = 0;
-            terms::refusal_number(r)
+        Err(Unwritten::Refused(r)) => {
+            put(res, [0]);
+            u32::from(r)
         }
     }
 }
@@ -386,115 +335,51 @@ pub extern "C" fn uvalinda_runs_for_window(
     tell_runs(answer, res)
 }
 
-// A reply as four numbers: what kind it is, and its values.
-#[derive(Clone, Copy)]
-struct Told {
-    kind: i64,
-    a: i64,
-    b: i64,
-    c: i64,
-}
-
-// A reply's numbers: 1 for AREA, 2 for CELL, 3 for NUMBER, 4 for ORIGIN, with its values, or zeros for a refusal.
-fn numbers_of(reply: Reply) -> Told
-    ensures { (result.kind ∷ result.a ∷ result.b ∷ result.c ∷ []) ≡ shown (said reply).word (said reply).numbers }
+// A reply as four numbers: 1 for AREA, 2 for CELL, 3 for NUMBER, 4 for ORIGIN, with its values, or zeros for a refusal.
+fn numbers_of(reply: Result<Reply, Refusal>) -> [i64; 4]
+    ensures { result ≡ shown (said reply).word (said reply).numbers }
 {
     match reply {
-        Reply::AreaSet {
-            w: _,
-            h: _,
-            squares,
-            x,
-            y,
-        } => Told {
-            kind: 1,
-            a: squares as i64,
-            b: x as i64,
-            c: y as i64,
-        },
-        Reply::OriginSet { ox, oy } => Told {
-            kind: 4,
-            a: ox as i64,
-            b: oy as i64,
-            c: 0,
-        },
-        Reply::Cell { x, y, blocks } => Told {
-            kind: 2,
-            a: x as i64,
-            b: y as i64,
-            c: blocks as i64,
-        },
-        Reply::Number { number, blocks } => Told {
-            kind: 3,
-            a: number as i64,
-            b: blocks as i64,
-            c: 0,
-        },
-        Reply::Refused(_) => Told {
-            kind: 0,
-            a: 0,
-            b: 0,
-            c: 0,
-        },
+        Ok(Reply::AreaSet { squares, x, y, .. }) => [1, squares as i64, x as i64, y as i64],
+        Ok(Reply::Cell { x, y, blocks }) => [2, x as i64, y as i64, blocks as i64],
+        Ok(Reply::Number { number, blocks }) => [3, number as i64, blocks as i64, 0],
+        Ok(Reply::OriginSet { ox, oy }) => [4, ox as i64, oy as i64, 0],
+        Err(_) => [0; 4],
     }
 }
 
 // The number of a refusal, 0 for any other reply.
-fn refusal_said(reply: Reply) -> u32
+fn refusal_said(reply: Result<Reply, Refusal>) -> u32
     ensures { result ≡ refusal_said (said reply).word (said reply).numbers }
 {
     match reply {
-        Reply::Refused(r) => terms::refusal_number(r),
-        _ => 0,
+        Ok(_) => 0,
+        Err(r) => u32::from(r),
     }
 }
 
-// The first four places of a slice: the area in force with its origin.
-fn put_state(res: &mut [i64], area: Area)
-    requires { 4 ≤ length res.old }
-    ensures { res.new ≡ state area ++ drop 4 res.old }
-{
-    res[0] = area.w as i64;
-    res[1] = area.h as i64;
-    res[2] = area.ox as i64;
-    res[3] = area.oy as i64;
-}
-
-// The four after them: a reply.
-fn put_told(res: &mut [i64], told: Told)
+// A reply under the area then in force, 0 by 0 for none: the area, and the reply after it.
+fn tell_reply(handled: Handled, res: &mut [i64]) -> u32
     requires { 8 ≤ length res.old }
-    ensures { res.new
-        ≡ take 4 res.old ++ (told.kind ∷ told.a ∷ told.b ∷ told.c ∷ drop 8 res.old) }
+    ensures returned { result ≡ (handled_figures (area_of handled.clerk.area) (said handled.reply)).refusal }
+    ensures values { res.new ≡ (handled_figures (area_of handled.clerk.area) (said handled.reply)).values ++ drop 8 res.old }
 {
-    let kind = told.kind;
-    let a = told.a;
-    let b = told.b;
-    let c = told.c;
-    res[4] = kind;
-    res[5] = a;
-    res[6] = b;
-    res[7] = c;
-}
-
-// The area in force, 0 by 0 for none.
-fn area_in_force(clerk: Clerk) -> Area
-    ensures { result ≡ area_of clerk }
-{
-    match clerk {
-        Clerk::NoArea => terms::at_post(0, 0),
-        Clerk::InForce(area) => area,
-    }
-}
-
-// A reply under the area then in force.
-fn tell_reply(area: Area, reply: Reply, res: &mut [i64]) -> u32
-    requires { 8 ≤ length res.old }
-    ensures returned { result ≡ (handled_figures area (said reply)).refusal }
-    ensures values { res.new ≡ (handled_figures area (said reply)).values ++ drop 8 res.old }
-{
-    put_state(res, area);
-    put_told(res, numbers_of(reply));
-    refusal_said(reply)
+    let area = handled.clerk.area.unwrap_or(terms::at_post(0, 0));
+    let [kind, a, b, c] = numbers_of(handled.reply);
+    put(
+        res,
+        [
+            area.w as i64,
+            area.h as i64,
+            area.ox as i64,
+            area.oy as i64,
+            kind,
+            a,
+            b,
+            c,
+        ],
+    );
+    refusal_said(handled.reply)
 }
 
 // Answers an order line under a caller's area, and says which area is then in force.
@@ -514,8 +399,5 @@ pub extern "C" fn uvalinda_handle_line(
         return SHORT;
     }
     let clerk = clerk::clerk_under(Area { w, h, ox, oy });
-    let handled = clerk.handle(line);
-    let after = handled.clerk;
-    let reply = handled.reply;
-    tell_reply(area_in_force(after), reply, res)
+    tell_reply(clerk.handle(line), res)
 }
