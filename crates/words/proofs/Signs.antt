@@ -100,17 +100,24 @@ only_signed f None nothing = by (signed_numeral f) refl
     by (Some z) e = let s = signed_spelt f z e in absurd (nothing z s.0 s.1)
     by None e = refl
 
--- what a field is read as, by whether a minus stands before it: `m` is what the code reads behind the minus, or of the whole field
+-- what a field is read as, by its first byte
+pub by_minus : (f : List ℕ) → 1 ≤ length f → get_or f 0 0 ≡ 45 → signed_numeral f ≡ downwards (numeral (drop 1 f))
+unfolding signed_numeral
+by_minus [] some sign = absurd (omega arith)
+by_minus (b ∷ bs) some sign = rw (eq-eqb b 45 sign)
+
+pub by_digits : (f : List ℕ) → 1 ≤ length f → (get_or f 0 0 ≡ 45 → ⊥) → signed_numeral f ≡ upwards (numeral f)
+unfolding signed_numeral
+by_digits [] some other = absurd (omega arith)
+by_digits (b ∷ bs) some other = rw (ne_eqb b 45 other)
+
+-- and as the code reads it, by whether a minus stands before it: `m` is what the code reads behind the minus, or of the whole field
 module _ (f : List ℕ) where
   pub behind_minus : 1 ≤ length f → get_or f 0 0 ≡ 45 → (m : Option ℕ) → Spells (take (length f - 1) (drop 1 f)) m → downwards m ≡ signed_numeral f
   unfolding signed_numeral
   behind_minus l sign m spelt =
       let all = take_all (length f - 1) (drop 1 f) (omega (arith, length-drop 1 f)) in
-      ap downwards (only_answer (take (length f - 1) (drop 1 f)) m spelt ∙ ap numeral all) ∙ by f l sign
-    where
-      by : (f : List ℕ) → 1 ≤ length f → get_or f 0 0 ≡ 45 → downwards (numeral (drop 1 f)) ≡ signed_numeral f
-      by [] l sign = absurd (omega arith)
-      by (b ∷ bs) l sign = sym (rw (eq-eqb b 45 sign))
+      ap downwards (only_answer (take (length f - 1) (drop 1 f)) m spelt ∙ ap numeral all) ∙ sym (by_minus f l sign)
 
   pub without_minus : pointwise eqb (take 1 f) (45 ∷ []) ≡ false → (m : Option ℕ) → Spells f m → upwards m ≡ signed_numeral f
   unfolding signed_numeral numeral is_number
@@ -129,6 +136,9 @@ figures_told f m e = (told_signed f e).0
 
 pub spelling_told : (f : List ℕ) (m : Option ℤ) → m ≡ signed_numeral f → SpellsSigned f m
 spelling_told f m e = (told_signed f e).1
+
+pub spelt_as : (f : List ℕ) (r : Option ℤ) → r ≡ signed_numeral f → SpellsSigned f r
+spelt_as = spelling_told
 
 -- these laws by one name
 pub ruleset signs = (without_minus, figures_told, spelling_told)
