@@ -1,6 +1,7 @@
 -- How the reader finds the fields of a line: where each begins and ends, and where the next begins. Document 01, "Order lines": "The reader takes the
 -- fields of a line one at a time, left to right."
 use Rattle.std.specs.Prelude.{cond, List, [], ◌∷◌, ℕ, ◌+◌, leb, eqb, length, drop, Option, Some, None}
+use Rattle.std.specs.Borrow.{Bor}
 use Rattle.fields.specs.declared.Taken.{Taken}
 use Rattle.fields.specs.declared.Taken.TheVariants.{Two, Three}
 
@@ -42,3 +43,17 @@ abbrev pub pieces : Option Taken → List (List ℕ)
 pieces (Some (Two word a)) = word.now ∷ a.now ∷ []
 pieces (Some (Three word a b)) = word.now ∷ a.now ∷ b.now ∷ []
 pieces None = []
+
+-- The slice of a line that begins at a place of it, and has these bytes.
+abbrev pub slice_at : (line : Bor (List ℕ)) (at : ℕ) → List ℕ → Bor (List ℕ)
+slice_at line at field = record { ref_ptr = (line.ref_ptr.0, line.ref_ptr.1 + at); now = field }
+
+-- What is taken of a line with these two or three fields: its slices with their bytes, one behind the other from its front, with a space between.
+abbrev pub taken : (line : Bor (List ℕ)) → List (List ℕ) → Option Taken
+taken line (word ∷ a ∷ []) = Some (Two (slice_at line 0 word) (slice_at line (past 0 (Some word)) a))
+taken line (word ∷ a ∷ b ∷ []) =
+    let at_a = past 0 (Some word) in
+    Some (Three (slice_at line 0 word) (slice_at line at_a a) (slice_at line (past at_a (Some a)) b))
+taken line [] = None
+taken line (word ∷ []) = None
+taken line (word ∷ a ∷ b ∷ c ∷ fields) = None

@@ -13,5 +13,5 @@ returns-then-line-gt-MOST_BYTES c =
 pub returns : goal.returns
 returns c =
     let line = c.args.line.now in
-    let told = told_so line (c.made_of.ensures ∙ ap shaped c.read_three.ensures ∙ short_line line c.if-line-gt-MOST_BYTES.false) in
+    let told = told_so line (c.made_of.ensures ∙ ap shaped c.read_three.ensures.bytes ∙ short_line line c.if-line-gt-MOST_BYTES.false) in
     record { figures = told.0; spelling = told.1 }
