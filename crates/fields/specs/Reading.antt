@@ -44,7 +44,7 @@ pieces (Some (Two word a)) = word.now ∷ a.now ∷ []
 pieces (Some (Three word a b)) = word.now ∷ a.now ∷ b.now ∷ []
 pieces None = []
 
--- The slice of a line that begins at a place of it, and has these bytes.
+-- The slice of a line that begins at a place of it, and has these bytes: `ref_ptr` tells a slice's block of memory, and the place there of its first byte.
 abbrev pub slice_at : (line : Bor (List ℕ)) (at : ℕ) → List ℕ → Bor (List ℕ)
 slice_at line at field = record { ref_ptr = (line.ref_ptr.0, line.ref_ptr.1 + at); now = field }
 
