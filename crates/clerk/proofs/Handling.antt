@@ -1,4 +1,4 @@
--- A reply from a library call's figures: when it is refused with a number, and when it is answered with some.
+-- A reply from a library call's figures: when it is refused with a number, and when it is answered with some; and the clerk after a refused line.
 use mathlib.Core.Bool.{Bool, true, false, cond}
 use mathlib.Core.List.{List, [], ◌∷◌, ◌++◌}
 use mathlib.Core.Logic.{◌↔◌}
@@ -9,11 +9,13 @@ use borrow.Author.Tests.{ne_eqb, eqb-true}
 use lib.Dec.{eqb}
 use lib.IntN.{ℤ, pos, nat_abs}
 use lib.ListN.{get_or}
+use Rattle.terms.specs.declared.Refusal.{Refusal}
 use Rattle.terms.specs.Terms.{past_32_bits, SignedFigures, at_post}
-use Rattle.std.specs.Prelude.{Ok}
+use Rattle.std.specs.Prelude.{Result, Ok, Err, None}
 use Rattle.curve.specs.declared.Square.{Square}
 use Rattle.curve.specs.Lookups.{finish_square_at, finish_figures}
 use Rattle.curve.proofs.Refused.{finish_answered}
+use Rattle.lines.specs.declared.Request.{Request}
 use Rattle.clerk.specs.Clerk as spec
 
 -- the i-th number of what is said
@@ -44,3 +46,11 @@ call_answered word first numbers f other = by (eqb f.refusal 0) refl
 -- a finish square is found under an accepted area, whose squares are a 32-bit number
 pub found_fits : (w h : ℕ) (s : Square) → finish_figures (Ok s) ≡ finish_square_at (at_post w h) → w * h < past_32_bits
 found_fits w h s e = let few = ((finish_answered (at_post w h)).0 (ap (λ f. f.refusal) (sym e))).1.0 in omega arith
+
+-- the clerk after a refused line, which begins with AREA or ORIGIN or does not
+module _ (held : spec.InForce) {begins : Bool} {q : Result Request Refusal} {r : Refusal} (is : q ≡ Err r) where
+  pub left_none : begins ≡ true → None ≡ spec.clerk_after held begins q
+  left_none e = sym (ap (spec.clerk_after held begins) is ∙ rw e refl)
+
+  pub left_alone : begins ≡ false → held ≡ spec.clerk_after held begins q
+  left_alone e = sym (ap (spec.clerk_after held begins) is ∙ rw e refl)

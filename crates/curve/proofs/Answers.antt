@@ -18,7 +18,7 @@ use Rattle.terms.specs.declared.Refusal.TheVariants.{NumberOutside, SquareOutsid
 use Rattle.terms.specs.Terms.{longest_side, most_blocks, accepted, offset_accepted, grid_accepted, natural, distance_of, below, Limits}
 use Rattle.terms.specs.Terms.{SignedFigures, answered, refused, in_signs, signed}
 use Rattle.terms.specs.Guards.{◌else◌, granted, admitted, first, grid_guards}
-use Rattle.terms.proofs.Limits.{limits, squares_limit, grid_passed, on_grid}
+use Rattle.terms.proofs.Limits.{limits, squares_limit, all_accepted, grid_passed, on_grid}
 use Rattle.terms.proofs.Refusals.{refusal_not_0}
 use Rattle.terms.proofs.Guards.{◌and◌, passed, next, quiet, refused_first, answered_so}
 use Rattle.terms.proofs.Places.{below_by}
@@ -97,6 +97,12 @@ module _ (area : Area) (number : ℕ) where
   pub number_off_grid : (r : Refusal) → admitted (grid_guards area) ≡ Err r → signed (refused r 3) ≡ number_to_square_at area number
   number_off_grid r e = refused_at 3 refl r e
 
+  module _ (e : admitted (first 4 (number_guards area number)) ≡ granted) where
+    pub number_on : (grid_accepted area ≡ true) × (number < area.w * area.h)
+    number_on =
+        let tests = passed (first 4 (number_guards area number)) e in
+        (all_accepted area tests.0 tests.1.0 tests.1.1.0, ltb-true number (area.w * area.h) tests.1.1.1)
+
   module _ (on : admitted (grid_guards area) ≡ granted) where
     is_on : grid_accepted area ≡ true
     is_on = on_grid area on
@@ -139,7 +145,24 @@ module _ (area : Area) (number : ℕ) where
 
 pub ruleset number_told = (number_off_grid, number_past, number_descends, number_deep, number_places, number_found)
 
--- square to number
+-- square to number: a square by its distances from the origin
+module _ (area : Area) (x y : ℤ) {u v : ℕ} (u_is : u ≡ distance_of (x -ℤ area.ox)) (v_is : v ≡ distance_of (y -ℤ area.oy)) where
+  -- the test on the distances is the definition's, in an area within the limits
+  pub inside_told : accepted area.w area.h ≡ true → ltb u area.w && ltb v area.h ≡ inside area x y
+  inside_told ok =
+      let most = limits area.w area.h ok in
+      ap₂ (λ u v. ltb u area.w && ltb v area.h) u_is v_is
+      ∙ ap₂ ◌&&◌ (below_by (x -ℤ area.ox) area.w most.w_most) (below_by (y -ℤ area.oy) area.h most.h_most)
+
+  module _ (e : admitted (first 4 (square_guards area x y)) ≡ granted) where
+    pub square_on : (grid_accepted area ≡ true) × (u < area.w) × (v < area.h)
+    square_on =
+        let tests = passed (first 4 (square_guards area x y)) e in
+        let on = all_accepted area tests.0 tests.1.0 tests.1.1.0 in
+        let both = (and-eq-true_iff (ltb u area.w) (ltb v area.h)).0 (inside_told (grid_passed area on).0 ∙ tests.1.1.1) in
+        (on, ltb-true u area.w both.0, ltb-true v area.h both.1)
+
+-- and what each guard says, and the figures of what the search found
 module _ (area : Area) (x y : ℤ) where
   numbers : List ℕ
   numbers = number_of (all area) (old_square area x y) ∷ blocks_holding (all area) (old_square area x y) ∷ []
@@ -216,11 +239,14 @@ module _ (area : Area) where
   last_values : List ℕ
   last_values = (square_of (all area) (area.w * area.h - 1)).x ∷ (square_of (all area) (area.w * area.h - 1)).y ∷ []
 
-  pub finish_off_grid : (r : Refusal) → admitted (grid_guards area) ≡ Err r → signed (refused r 2) ≡ finish_square_at area
+  pub finish_refused_so : (r : Refusal) → admitted (finish_guards area) ≡ Err r → signed (refused r 2) ≡ finish_square_at area
   unfolding finish_square_at last_values
-  finish_off_grid r e =
+  finish_refused_so r e =
       sym (refusal_stays area.ox area.oy r 2)
       ∙ ap (from_origin area.ox area.oy) (refused_first 3 (finish_guards area) 2 last_values refl r e)
+
+  pub finish_off_grid : (r : Refusal) → admitted (grid_guards area) ≡ Err r → signed (refused r 2) ≡ finish_square_at area
+  finish_off_grid = finish_refused_so
 
   -- the last square lies in the area
   pub last_places : admitted (grid_guards area) ≡ granted → {x y : ℕ} → square x y ≡ square_of (whole area.w area.h) (area.w * area.h - 1) → Places area x y
