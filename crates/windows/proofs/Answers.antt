@@ -26,10 +26,18 @@ use Rattle.panes.specs.declared.Pane.{Pane}
 use Rattle.panes.specs.Panes.{pane_at, in_span, in_pane, Tally, none, over, seen, runs_of, pairs_into}
 use Rattle.windows.specs.declared.Window.{Window}
 use Rattle.windows.specs.declared.Corners.{Corners}
-use Rattle.windows.specs.Windows.{in_window, window_runs, some_deep, old_corners, runs_at, window_guards}
+use Rattle.windows.specs.Windows.{in_window, window_runs, some_deep, old_corners, runs_at, corners_inside, window_guards}
 use Rattle.windows.specs.Windows.{runs_for_window_at, written, slice_after_at}
 use Rattle.windows.specs.Within.{Lies, within_figures, within_slice}
 use Rattle.windows.proofs.CountedRuns.{counted_runs, written_runs}
+
+-- the test on the old corners is the definition's, in an area within the limits
+pub inside_told : (area : Area) (v : Window) → accepted area.w area.h ≡ true
+    → (let old = old_corners area v in (ltb old.x0 area.w && ltb old.y0 area.h) && (ltb old.x1 area.w && ltb old.y1 area.h)) ≡ corners_inside area v
+inside_told area v ok =
+    let most = limits area.w area.h ok in
+    ap₂ ◌&&◌ (ap₂ ◌&&◌ (below_by (v.x0 -ℤ area.ox) area.w most.w_most) (below_by (v.y0 -ℤ area.oy) area.h most.h_most))
+    (ap₂ ◌&&◌ (below_by (v.x1 -ℤ area.ox) area.w most.w_most) (below_by (v.y1 -ℤ area.oy) area.h most.h_most))
 
 -- a window that is granted lies in its area
 module _ (area : Area) (v : Window) (slice : List ℕ) (e : admitted (first 5 (window_guards area v slice)) ≡ granted) where
