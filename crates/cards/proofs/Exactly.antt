@@ -20,7 +20,7 @@ use Rattle.cards.specs.declared.Unread.{Unread}
 use Rattle.cards.specs.declared.Unread.TheVariants as Unreads
 use Rattle.cards.specs.Cards.{write_guards, read_guards, write, read, measure, length_figures, write_figures, read_figures}
 use Rattle.cards.specs.Cards.{write_at, file_after_at, read_at, table_after_at, measure_at}
-use Rattle.cards.proofs.Refused.{Kind, Fits, FirstBad, write_answered, read_answered, read_refused_14, block_told, no_block_told}
+use Rattle.cards.proofs.Refused.{Kind, Fits, FirstBad, write_answered, read_answered, read_refused_14, block_told, no_block_told, unread_tells_0}
 use Rattle.cards.proofs.Refused.{measure_answered, measured}
 
 -- figures with 0 are those of an answered call
@@ -87,7 +87,7 @@ module _ (area : Area) (kind : ℕ) where
 
     pub unread_exactly : (r : Refusal) → (r ≡ BadCheck → ⊥) → (read_figures (Err (Unreads.Refused r)) ≡ read_at area kind file table)
         ↔ ((read area.w area.h kind file table).refusal ≡ refusal_number r)
-    unread_exactly r other = (λ e. sym (ap (λ (f : Figures). f.refusal) e), λ e. sym (no_block_told w h kind file table r other e))
+    unread_exactly r other = (λ e. sym (ap (λ (f : Figures). f.refusal) e), λ e. unread_tells_0 r other ∙ sym (no_block_told w h kind file table r other e))
 
     pub read_leaves : read_figures (Ok tt) ≡ read_at area kind file table → table_after_at area kind file table ≡ right_table area.w area.h kind
     read_leaves e = answered_left (read w h kind file table) (right_table w h kind) table (sym (ap (λ (f : Figures). f.refusal) e))

@@ -19,7 +19,7 @@ use Rattle.terms.specs.Guards.{◌else◌, granted, admitted, first}
 use Rattle.terms.specs.Comparing.{same_numbers}
 use Rattle.terms.specs.Telling.{Tells}
 use Rattle.terms.proofs.Limits.{limits, both_accepted}
-use Rattle.terms.proofs.Guards.{passed, refused_first, granted_first, untried}
+use Rattle.terms.proofs.Guards.{passed, fails, refused_first, granted_first, untried}
 use Rattle.terms.proofs.Telling.{tells_same, tells_one}
 use Rattle.sectors.specs.Sectors.{words_of, whole_blocks, first_bad_in}
 use Rattle.sectors.specs.Steps.{bad_block}
@@ -32,12 +32,13 @@ use Rattle.tables.proofs.Promises.{right_fields, filled_then_right, check_one}
 use Rattle.layouts.specs.Layouts.{table_blocks, right_table, card_words, card_of, card, card_bytes}
 use Rattle.layouts.specs.Steps.{Room, table_word, table_in}
 use Rattle.layouts.proofs.Accepting.{card_length, card_in_words, card_holds}
-use Rattle.cards.specs.Cards.{kind_known, write_guards, read_guards, write, read, file_after, table_after}
+use Rattle.cards.specs.Cards.{kind_known, write_guards, read_guards, write, read, file_after, table_after, read_figures}
 use Rattle.cards.specs.declared.Kind.{Kind}
 use Rattle.cards.specs.declared.Kind.TheVariants as Kinds
 use Rattle.cards.specs.declared.Unread.{Unread}
 use Rattle.cards.specs.declared.Unread.TheVariants as Unreads
 use Rattle.cards.specs.Fitting.{by_square, known, says_right, write_on, read_on}
+use Rattle.cards.proofs.Refused.{unread_tells_0}
 
 module _ (w h kind : ℕ) (ok : accepted w h ≡ true) where
   shallow : not (some_deep w h) ≡ true
@@ -141,11 +142,12 @@ module _ (w h kind : ℕ) where
 
   module _ (file table : List ℕ) where
     pub read_refused : (r : Refusal) → admitted (table_guards w h (length table)) ≡ Err r
-        → (refused_with r (0 ∷ []) ≡ read w h kind file table) × (table ≡ table_after w h kind file table)
+        → (read_figures (Err (Unreads.Refused r)) ≡ read w h kind file table) × (table ≡ table_after w h kind file table)
     unfolding read
     read_refused r e =
+        let none = fails (table_guards w h (length table)) BadCheck in
         let is = refused_first 4 (read_guards w h kind file (length table)) 1 (0 ∷ []) refl r e in
-        (is, kept r (0 ∷ []) (right_table w h kind) table is)
+        (unread_tells_0 r (λ bad. (none (e ∙ ap Err bad)).1.1.1.1) ∙ is, kept r (0 ∷ []) (right_table w h kind) table is)
 
     pub read_granted : admitted (table_guards w h (length table)) ≡ granted → {answer : Figures} {after : List ℕ}
         → (answer ≡ read_on w h kind file) × (after ≡ unless_refused (read_on w h kind file) (right_table w h kind) table)
@@ -268,18 +270,18 @@ module _ (w h kind : ℕ) (file table : List ℕ) (taken : admitted (table_guard
   bad_read there = read_granted w h kind file table taken (bad_told w h kind ready file table there)
 
   module _ (none : bad_block file ≡ None) where
-    pub unknown_read : {r : Refusal} → known kind ≡ Err r → Read (refused_with r (0 ∷ [])) table
+    pub unknown_read : {r : Refusal} → known kind ≡ Err r → Read (read_figures (Err (Unreads.Refused r))) table
     unknown_read e =
         let off = unknown_so kind e in
         let so = read_granted w h kind file table taken (no_such_kind w h kind ready file table (no_bad file none) off.0) in
-        (ap (λ (s : Refusal). refused_with s (0 ∷ [])) off.1 ∙ so.0, so.1)
+        (ap (λ (s : Refusal). read_figures (Err (Unreads.Refused s))) off.1 ∙ so.0, so.1)
 
     module _ {k : Kind} (is : known kind ≡ Ok k) {t : Bool} (tells : Tells t (file ≡ card w h kind)) where
-      pub no_card_read : {r : Refusal} → admitted (t else Departure ∷ []) ≡ Err r → Read (refused_with r (0 ∷ [])) table
+      pub no_card_read : {r : Refusal} → admitted (t else Departure ∷ []) ≡ Err r → Read (read_figures (Err (Unreads.Refused r))) table
       no_card_read e =
           let off = guard_failed t Departure e in
           let so = read_granted w h kind file table taken (no_card w h kind ready file table (no_bad file none) (known_so kind is).0 tells off.0) in
-          (ap (λ (s : Refusal). refused_with s (0 ∷ [])) off.1 ∙ so.0, so.1)
+          (ap (λ (s : Refusal). read_figures (Err (Unreads.Refused s))) off.1 ∙ so.0, so.1)
 
       pub is_there : admitted (t else Departure ∷ []) ≡ granted → Room file (w * h)
       is_there e = card_room w h ready kind file (tells.0 (guard_passed t Departure e))

@@ -1,12 +1,12 @@
 -- What follows from the promises of writing and reading: the round trip in either sense, what is left at a refusal, one changed byte, origins that make no
 -- difference, one answer, the fields of answers, and wrong programs that are turned away.
-use mathlib.Core.Bool.{true, false, cond}
+use mathlib.Core.Bool.{Bool, true, false, cond}
 use mathlib.Core.List.{List, [], ◌∷◌}
 use mathlib.Core.Logic.{inl, inr}
 use mathlib.Core.Path.{◌≡◌, refl, sym, ap, ap₂, ◌∙◌}
 use Prim.Native.Nat.{ℕ, ◌+◌, ◌*◌, ◌/◌, ◌%◌, ◌<◌}
 use native.Mathlib.Omega.{arith}
-use borrow.Author.Tests.{ne_eqb}
+use borrow.Author.Tests.{eqb-true}
 use lib.Dec.{eqb}
 use lib.ListN.{length, get_or, set, replicate, length-set, length-replicate}
 use Rattle.terms.specs.declared.Area.{Area}
@@ -26,10 +26,9 @@ use Rattle.tables.proofs.PlaceByPlace.{due_length}
 use Rattle.layouts.specs.Layouts.{table_blocks, right_table, card, card_bytes}
 use Rattle.layouts.proofs.Accepting.{card_good, card_length}
 use Rattle.layouts.proofs.CardBytes.{due_below, card_of_bytes}
-use Rattle.std.specs.Prelude.{Result, Ok, Err, IfErr, ⊤}
+use Rattle.std.specs.Prelude.{Result, Ok, Err, ⊤}
 use Rattle.cards.specs.declared.Unread.{Unread}
 use Rattle.cards.specs.declared.Unread.TheVariants as Unreads
-use Rattle.cards.specs.Fitting.{TellsBlock}
 use Rattle.cards.specs.Cards.{write, read, measure, file_after, table_after, length_figures, write_figures, read_figures}
 use Rattle.cards.specs.Cards.{write_at, file_after_at, read_at, table_after_at, measure_at}
 use Rattle.cards.proofs.Refused.{Kind, Fits, FirstBad, first_bad_is, write_answered, read_answered, read_refused_14, block_told}
@@ -152,24 +151,31 @@ pub write_one : (r s : Result ⊤ Refusal) {f : Figures} {x y left : List ℕ} �
     → (r ≡ s) × (x ≡ y)
 write_one r s p q = (by_figures write_figures write_from write_told r s p.0 q.0, one_equation p.1 q.1)
 
--- a bad check is told with its block, so that its figures tell it
+-- a bad check has its block for a value, and one that tells none has no value
+abbrev bad_from : List ℕ → Unread
+bad_from [] = Unreads.Refused BadCheck
+bad_from (block ∷ others) = Unreads.BadCheck block
+
 unread_from : Figures → Unread
-unread_from f = cond (eqb f.refusal 14) (Unreads.BadCheck (figure 0 f)) (Unreads.Refused (named f.refusal))
+unread_from f = cond (eqb f.refusal 14) (bad_from f.values) (Unreads.Refused (named f.refusal))
 
 read_from : Figures → Result ⊤ Unread
 read_from f = cond (eqb f.refusal 0) (Ok tt) (Err (unread_from f))
 
-read_told : (r : Result ⊤ Unread) → IfErr r TellsBlock → read_from (read_figures r) ≡ r
+read_told : (r : Result ⊤ Unread) → read_from (read_figures r) ≡ r
 unfolding read_from unread_from
-read_told (Ok u) told = refl
-read_told (Err (Unreads.BadCheck block)) told = refl
-read_told (Err (Unreads.Refused r)) told =
-    rw (refusal_not_0 r, ne_eqb (refusal_number r) 14 (λ e. told (ap Unreads.Refused (refusal_one r BadCheck e))))
-    (ap (λ (s : Refusal). Err (Unreads.Refused s)) (named_back r))
+read_told (Ok u) = refl
+read_told (Err (Unreads.BadCheck block)) = refl
+read_told (Err (Unreads.Refused r)) = rw (refusal_not_0 r) (ap Err (by (eqb (refusal_number r) 14) refl))
+  where
+    by : (t : Bool) → eqb (refusal_number r) 14 ≡ t
+        → cond t (bad_from (cond t [] (0 ∷ []))) (Unreads.Refused (named (refusal_number r))) ≡ Unreads.Refused r
+    by true e = ap Unreads.Refused (refusal_one BadCheck r (sym (eqb-true (refusal_number r) 14 e)))
+    by false e = ap Unreads.Refused (named_back r)
 
-pub read_one : (r s : Result ⊤ Unread) {f : Figures} {x y left : List ℕ} → (read_figures r ≡ f) × (IfErr r TellsBlock) × (x ≡ left)
-    → (read_figures s ≡ f) × (IfErr s TellsBlock) × (y ≡ left) → (r ≡ s) × (x ≡ y)
-read_one r s p q = (sym (read_told r p.1) ∙ ap read_from (one_equation p.0 q.0) ∙ read_told s q.1, one_equation p.2 q.2)
+pub read_one : (r s : Result ⊤ Unread) {f : Figures} {x y left : List ℕ} → (read_figures r ≡ f) × (x ≡ left) → (read_figures s ≡ f) × (y ≡ left)
+    → (r ≡ s) × (x ≡ y)
+read_one r s p q = (by_figures read_figures read_from read_told r s p.0 q.0, one_equation p.1 q.1)
 
 -- The bytes that are told are those of the area's card, of either kind.
 pub bytes_fields : (area : Area) (n : ℕ) → length_figures (Ok n) ≡ measure_at area → (kind : ℕ)

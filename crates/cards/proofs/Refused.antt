@@ -27,7 +27,9 @@ use Rattle.tables.specs.Tables.{some_deep}
 use Rattle.tables.proofs.Admitted.{not_deep}
 use Rattle.layouts.specs.Layouts.{right_table, card, card_bytes}
 use Rattle.layouts.proofs.Accepting.{card_good}
-use Rattle.cards.specs.Cards.{kind_known, write_guards, read_guards, write, read, measure}
+use Rattle.std.specs.Prelude.{Err}
+use Rattle.cards.specs.declared.Unread.TheVariants as Unreads
+use Rattle.cards.specs.Cards.{kind_known, write_guards, read_guards, write, read, measure, read_figures}
 
 -- "kind (1 by number, 2 by square)"
 abbrev pub Kind : (kind : ℕ) → Type 0
@@ -281,6 +283,9 @@ module _ (w h kind : ℕ) (file table : List ℕ) where
     where
       silent : (r : Refusal) → (r ≡ BadCheck → ⊥) → silent_at r (read_guards w h kind file (length table)) ≡ true
       silent r other = rw (ne_eqb 14 (refusal_number r) (λ z. other (sym (refusal_one BadCheck r z))))
+
+pub unread_tells_0 : (r : Refusal) → (r ≡ BadCheck → ⊥) → read_figures (Err (Unreads.Refused r)) ≡ refused r 1
+unread_tells_0 r other = rw (ne_eqb (refusal_number r) 14 (λ e. other (refusal_one r BadCheck e)))
 
 -- how long a file must be
 module _ (w h : ℕ) where

@@ -1,10 +1,10 @@
 -- What writing and reading a card answer, and what they leave of the lent file and the lent table, for every area, kind, table and file; and how long a card's
 -- file is. Document 02, order 8, from "Writer and reader are told the area and the kind" to "A refusal writes nothing."
-use Rattle.std.specs.Prelude.{Bool, not, ◌||◌, Result, Ok, Err, ⊤, List, [], ◌∷◌, ℕ, ◌*◌, eqb, length}
+use Rattle.std.specs.Prelude.{Bool, not, cond, ◌||◌, Result, Ok, Err, ⊤, List, [], ◌∷◌, ℕ, ◌*◌, eqb, length}
 use Rattle.terms.specs.declared.Area.{Area}
 use Rattle.terms.specs.declared.Refusal.{Refusal}
 use Rattle.terms.specs.declared.Refusal.TheVariants.{AreaLimit, TableLength, TooDeep, TooManySquares, BadCheck, Departure}
-use Rattle.terms.specs.Terms.{lengths_accepted, squares_accepted, Figures, answered, refused, refused_with}
+use Rattle.terms.specs.Terms.{lengths_accepted, squares_accepted, refusal_number, Figures, answered, refused, refused_with}
 use Rattle.terms.specs.Guards.{Guard, ◌else◌, ◌telling◌, guarded, area_guards}
 use Rattle.terms.specs.Comparing.{same_numbers}
 use Rattle.sectors.specs.Sectors.{whole_blocks, first_bad_in}
@@ -76,7 +76,7 @@ table_after_at area = table_after area.w area.h
 abbrev pub measure_at : Area → Figures
 measure_at area = measure area.w area.h
 
--- The figures of the answers.
+-- The figures of the answers. A bad check is told with its block; one that tells none, which no answer is, has no value, so that each has figures of its own.
 abbrev pub length_figures : Result ℕ Refusal → Figures
 length_figures (Ok bytes) = answered (bytes ∷ [])
 length_figures (Err r) = refused r 1
@@ -88,4 +88,4 @@ write_figures (Err r) = refused r 0
 abbrev pub read_figures : Result ⊤ Unread → Figures
 read_figures (Ok u) = answered (0 ∷ [])
 read_figures (Err (Unreads.BadCheck block)) = refused_with BadCheck (block ∷ [])
-read_figures (Err (Unreads.Refused r)) = refused_with r (0 ∷ [])
+read_figures (Err (Unreads.Refused r)) = refused_with r (cond (eqb (refusal_number r) 14) [] (0 ∷ []))

@@ -6,10 +6,11 @@
 // short is left as it is, and 255 is returned, which is no refusal's number.
 #![tactic(auto)]
 
-ghost use Rattle.std.specs.Prelude.{◌++◌, ◌≡◌, ◌≤◌, length, drop};
+ghost use Rattle.std.specs.Prelude.{◌++◌, ◌≡◌, ◌≤◌, length, drop, IfErr};
 ghost use Rattle.clerk.specs.Clerk.{said};
 ghost use Rattle.tables.specs.Tables.{fill_figures, check_figures};
 ghost use Rattle.cards.specs.Cards.{length_figures, write_figures, read_figures};
+ghost use Rattle.cards.specs.Fitting.{TellsBlock};
 ghost use Rattle.windows.specs.Windows.{runs_figures};
 ghost use Rattle.boundary.specs.Handling.{area_of, shown, refusal_said, handled_figures};
 ghost use Rattle.boundary.specs.Calls.{number_to_square_call, square_to_number_call, finish_square_call, runs_for_window_call, handle_line_call};
@@ -246,7 +247,7 @@ pub extern "C" fn uvalinda_write_card(
 
 // A reader's answer: the block of a bad check to the first place, 0 where there is none.
 fn tell_read(answer: Result<(), Unread>, block: &mut [u64]) -> u32
-    requires { 1 ≤ length block.old }
+    requires { (1 ≤ length block.old) × IfErr answer TellsBlock }
     ensures returned { result ≡ (read_figures answer).refusal }
     ensures block { block.new ≡ (read_figures answer).values ++ drop 1 block.old }
 {
