@@ -8,7 +8,7 @@ ghost use Rattle.std.specs.IoError.{error_kind};
 ghost use Rattle.std.specs.Io.{ReadsAtMost, WritesAtMost};
 ghost use Rattle.std.specs.Io.KnownBytes.{Appends, ReadConsumes, WriteAppends};
 
-use arrayvec::ArrayString;
+use arrayvec::{ArrayString, ArrayVec};
 use std::fmt::Write as _;
 use std::io::{ErrorKind, Read, Write};
 use std::rt::Clock;
@@ -84,24 +84,28 @@ impl fmt::Display for Why<'_> {
     }
 }
 
-// A line on standard error, or what stands for it: what failed, and why the system says that it did. A line that cannot be written is given up. What failed
-// is bytes, as a name may be, and a format takes text alone.
+// A line on standard error, or what stands for it: what failed, and why the system says that it did. Each of its parts is one write, which is tried whatever
+// became of the one before: a line whose front is refused still gets its end. What failed is bytes, as a name may be, and a format takes text alone.
 pub fn fail<W: Write>(to: &mut W, what: &[u8], error: &io::Error) {
-    fail_on(to, what, b"", error);
+    let _ = to.write_all(what);
+    let _ = to.write_all(b": ");
+    let _ = write!(to, "{}", Why(error));
+    let _ = to.write_all(b"\n");
 }
 
-// The longest that is said of what failed: a longer name is cut.
+// The longest that is said of what failed: what is longer is cut.
 const LONGEST: usize = 4096;
 
-// The same, with a name or with the number of a line.
+// The same, with a name or with the number of a line: the two are one part.
 pub fn fail_on<W: Write>(to: &mut W, what: &[u8], name: &[u8], error: &io::Error) {
-    let room = LONGEST.saturating_sub(what.len());
-    let _ = to.write_all(what);
-    let _ = to.write_all(&name[..name.len().min(room)]);
-    let _ = writeln!(to, ": {}", Why(error));
+    let mut said = ArrayVec::<u8, LONGEST>::new();
+    let _ = said.write(what);
+    let _ = said.write(name);
+    fail(to, &said, error);
 }
 
 pub fn fail_at<W: Write>(to: &mut W, what: &[u8], line: u32, error: &io::Error) {
-    let _ = to.write_all(what);
-    let _ = writeln!(to, "{line}: {}", Why(error));
+    let mut digits = ArrayString::<20>::new();
+    let _ = write!(digits, "{line}");
+    fail_on(to, what, digits.as_bytes(), error);
 }
