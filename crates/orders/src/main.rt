@@ -130,17 +130,21 @@ fn usage(rt: &HostRuntime) -> Told {
 
 // Answers an argument: a word that asks about the program, or the name of a form, which the library takes only as text.
 fn answer_argument(rt: &HostRuntime, word: &[u8]) -> Result<(), Told> {
-    match word {
-        b"--help" => say(
+    if words::is_word(word, b"--help") {
+        return say(
             rt,
             b"orders [FORM]: answers the order lines of FORM, or of standard input, with a reply to each. See orders(1).\n",
-        ),
-        b"--version" => say(rt, b"orders 2.0.0\n"),
-        [b'-', ..] => Err(usage(rt)),
-        _ => match std::str::from_utf8(word) {
-            Ok(name) => answer_named(rt, name),
-            Err(_) => Err(fail_on_form(rt, word, &io::Error::from_raw_os_error(NO_TEXT))),
-        },
+        );
+    }
+    if words::is_word(word, b"--version") {
+        return say(rt, b"orders 2.0.0\n");
+    }
+    if words::begins_with(word, b"-") {
+        return Err(usage(rt));
+    }
+    match std::str::from_utf8(word) {
+        Ok(name) => answer_named(rt, name),
+        Err(_) => Err(fail_on_form(rt, word, &io::Error::from_raw_os_error(NO_TEXT))),
     }
 }
 
