@@ -6,7 +6,7 @@ ghost use Rattle.std.specs.Prelude.{◌≡◌, ◌≤◌, length, take, [], OnOk
 ghost use Rattle.std.specs.Io.KnownBytes.{Appends, Consumes, IsAtEnd};
 ghost use Rattle.replies.specs.Text.{longest};
 ghost use Rattle.desk.specs.Desk.{output};
-ghost use Rattle.orders.specs.Serving.{Answers};
+ghost use Rattle.orders.specs.Serving.{Answers, Turns};
 
 use desk::Desk;
 use std::env::FillError;
@@ -72,6 +72,24 @@ fn read<R: Read>(rt: &HostRuntime, from: &mut R, chunk: &mut [u8], line: u32) ->
     })
 }
 
+// One read and the replies to it, and whether to go on: not at the end of the input, nor with a desk that is closed.
+fn turn<R: Read, W: Write>(
+    rt: &HostRuntime,
+    from: &mut R,
+    to: &mut W,
+    desk: &mut Desk,
+    chunk: &mut [u8],
+    out: &mut [u8],
+) -> Result<bool, Told>
+    requires { longest ≤ length out.old }
+    ensures { IfOk result (λ more. 1 ≤ length chunk.old
+        → Turns (R.remaining from.old) (R.remaining from.new) (W.contents to.old) (W.contents to.new) desk.old desk.new more) }
+{
+    let n = read(rt, from, chunk, desk.line)?;
+    serve(rt, to, desk, &chunk[..n], out)?;
+    Ok(n != 0 && !desk.closed)
+}
+
 // Answers the lines of a form, whose bytes a reader hands out. Nothing says that an input ends, so its reads are counted, up to a number that is never
 // reached.
 fn answer<R: Read, W: Write>(rt: &HostRuntime, from: &mut R, to: &mut W) -> Result<(), Told>
@@ -81,9 +99,7 @@ fn answer<R: Read, W: Write>(rt: &HostRuntime, from: &mut R, to: &mut W) -> Resu
     let mut out = [0u8; 65536];
     let mut desk = Desk::opened();
     for _ in 0..u64::MAX {
-        let n = read(rt, from, &mut chunk, desk.line)?;
-        serve(rt, to, &mut desk, &chunk[..n], &mut out)?;
-        if n == 0 || desk.closed {
+        if !turn(rt, from, to, &mut desk, &mut chunk, &mut out)? {
             let end = desk.finish(&mut out);
             return write(rt, to, &out[..end], desk.line);
         }

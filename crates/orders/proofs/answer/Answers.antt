@@ -1,18 +1,19 @@
--- Each read goes on from where the last one left the desk; after them `finish` writes what is left.
-use Rattle.std.proofs.Common.{arith, inl, inr}
+-- Each turn goes on from where the last one left the desk; after them `finish` writes what is left.
+use Rattle.std.proofs.Common.{arith, subst}
 use Rattle.std.proofs.lemmas.Result.{on_ok_weaker}
-use Rattle.orders.proofs.Serving.{read_on, whole}
+use Rattle.desk.specs.Steps.{at_first}
+use Rattle.orders.specs.Serving.{Turns}
+use Rattle.orders.proofs.Serving.{not_begun, turned, whole}
 use Rattle.orders.proofs.answer.Goals as goal
-use Rattle.orders.proofs.answer.Goals.{then-n-eq0-via-then-n-eq0, then-n-eq0-via-else-n-eq0+then-desk}
+
+pub loop-init : goal.loop-init
+loop-init g c = not_begun _ _ c.opened-desk.ensures
 
 pub loop-preserved : goal.loop-preserved
-loop-preserved g c = read_on c.loop.invariant c.in_ok-n.ensures.bytes c.in_ok-serve.ensures
+loop-preserved g c =
+    subst (Turns _ _ _ _ at_first c.turn.new.desk) c.if-not-branch.false (turned c.loop.invariant (c.in_ok-turn.ensures (omega arith)))
 
-pub returns-then-n-eq0 : goal.returns-then-n-eq0
-returns-then-n-eq0 g c =
-    let turns = read_on c.loop.invariant c.in_ok-n.ensures.bytes c.in_ok-serve.ensures in
-    on_ok_weaker _ (whole c.finish-end.ensures.written c.finish-end.ensures.short (omega arith) _ turns
-    (elim c.then-n-eq0.branch [
-      | then-n-eq0-via-then-n-eq0 w ↦ inr (c.in_ok-n.ensures.end w.if-n-eq0.true (omega arith))
-      | then-n-eq0-via-else-n-eq0+then-desk w ↦ inl w.if-desk.true
-    ])) c.write.ensures
+pub returns-then-not-branch : goal.returns-then-not-branch
+returns-then-not-branch g c =
+    let turns = turned c.loop.invariant (c.in_ok-turn.ensures (omega arith)) in
+    on_ok_weaker _ (whole c.finish-end.ensures.written c.finish-end.ensures.short (omega arith) _ turns c.if-not-branch.true) c.write.ensures
