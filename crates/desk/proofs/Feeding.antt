@@ -15,7 +15,9 @@ use Rattle.replies.specs.Text.{longest, Writes}
 use Rattle.replies.proofs.Writing.{writes_both, writes_length, writes_as, writes_rest}
 use Rattle.desk.specs.declared.Desk.{Desk}
 use Rattle.desk.specs.Desk.{last_answered}
-use Rattle.desk.specs.Steps.{kept_bytes, begun_line, stopped, behind_newline, next_desk, prints, Result, still, onward, fed, Lent, Returned, Feeds}
+use Rattle.desk.specs.Steps.{kept_bytes, one_more, begun_line, stopped, behind_newline, next_desk, prints}
+use Rattle.desk.specs.Steps.{Result, still, onward, fed, Lent, Returned, Feeds}
+use Rattle.desk.proofs.Bytes.{one_kept}
 
 -- n bytes taken and some text printed before a result
 abbrev before : ℕ → List ℕ → Result → Result
@@ -54,14 +56,14 @@ pub still_few : (d : Desk) (b : ℕ) → length (begun_line d) ≤ kept_bytes �
 still_few d b few = by d.closed (ltb last_answered d.line) (eqb b 10) (leb kept_bytes (length (begun_line d))) refl
   where
     by : (o s e f : Bool) → leb kept_bytes (length (begun_line d)) ≡ f
-        → (let more : Desk = record { clerk = d.clerk; line = d.line; begun = record { items = begun_line d ++ (b ∷ []) }; closed = d.closed } in
-        length (begun_line (cond o d (cond s (stopped d) (cond e (behind_newline d) (cond f d more))))) ≤ kept_bytes)
+        → (let more : Desk = record { clerk = d.clerk; line = d.line; begun = cond f d.begun (one_more d.begun b); closed = d.closed } in
+        length (begun_line (cond o d (cond s (stopped d) (cond e (behind_newline d) more)))) ≤ kept_bytes)
     by true s e f p = few
     by false true e f p = few
     by false false true f p = omega arith
     by false false false true p = few
     by false false false false p =
-        let one = length-append (begun_line d) (b ∷ []) in
+        let one = ap length (one_kept d.begun b) ∙ length-append (begun_line d) (b ∷ []) in
         let less = leb-false kept_bytes (length (begun_line d)) p in
         omega arith
 

@@ -17,7 +17,7 @@ use Rattle.replies.specs.Text.{text, longest, Writes, if_room}
 use Rattle.replies.proofs.Promises.{writes_one}
 use Rattle.desk.specs.declared.Desk.{Desk}
 use Rattle.desk.specs.Desk.{lines_of, answers, output}
-use Rattle.desk.specs.Steps.{at_first, stopped, prints_last, Lent, Returned, Feeds}
+use Rattle.desk.specs.Steps.{kept_bytes, none_kept, at_first, stopped, prints_last, Lent, Returned, Feeds}
 
 -- Two results of `feed` that meet its promise are one: desk, bytes taken, output and bytes written. Of `finish`, `writes_one` says it.
 pub feed_one : {d : Desk} {lent : Lent} {one other : Returned} → Feeds d lent one → Feeds d lent other → one ≡ other
@@ -48,19 +48,19 @@ repeats_its_first promise =
     omega arith
 
 -- Turned away, of `opened`: one that counts the lines from 0, and one that reads none.
-pub counts_from_nothing : record { clerk = record { area = None }; line = 0; begun = record { items = [] }; closed = false } ≡ at_first → ⊥
+pub counts_from_nothing : record { clerk = record { area = None }; line = 0; begun = none_kept; closed = false } ≡ at_first → ⊥
 counts_from_nothing promise = let other : ◌≡◌ {A = ℕ} 0 1 = ap (λ (d : Desk). d.line) promise in omega arith
 
-pub reads_none : record { clerk = record { area = None }; line = 1; begun = record { items = [] }; closed = true } ≡ at_first → ⊥
+pub reads_none : record { clerk = record { area = None }; line = 1; begun = none_kept; closed = true } ≡ at_first → ⊥
 reads_none promise = true≢false (ap (λ (d : Desk). d.closed) promise)
 
 -- Turned away, of `closed`: one that leaves the desk reading, and one that closes it but forgets where it stood.
 pub reads_on : ((d : Desk) → d ≡ stopped d) → ⊥
 reads_on promise = false≢true (ap (λ (d : Desk). d.closed) (promise at_first))
 
-pub begins_anew : ((d : Desk) → record { clerk = record { area = None }; line = 1; begun = record { items = [] }; closed = true } ≡ stopped d) → ⊥
+pub begins_anew : ((d : Desk) → record { clerk = record { area = None }; line = 1; begun = none_kept; closed = true } ≡ stopped d) → ⊥
 begins_anew promise =
-    let second : Desk = record { clerk = record { area = None }; line = 2; begun = record { items = [] }; closed = false } in
+    let second : Desk = record { clerk = record { area = None }; line = 2; begun = none_kept; closed = false } in
     let other : ◌≡◌ {A = ℕ} 1 2 = ap (λ (d : Desk). d.line) (promise second) in
     omega arith
 
@@ -69,7 +69,7 @@ abbrev last_of : Desk → List ℕ
 last_of d = if_room (replicate longest 0) 0 (prints_last d)
 
 abbrev with_begun : ℕ → Desk
-with_begun n = record { clerk = record { area = None }; line = 1; begun = record { items = replicate n 0 }; closed = false }
+with_begun n = record { clerk = record { area = None }; line = 1; begun = record { bytes = replicate kept_bytes 0; count = n }; closed = false }
 
 pub last_line_lost : ((d : Desk) → Writes (replicate longest 0) 0 (last_of d) (replicate longest 0) 0) → ⊥
 unfolding text decimal decimal_by reply request shaped fields same_bytes

@@ -19,7 +19,7 @@ use Rattle.desk.specs.Desk.{last_answered, lines_of, answers, output}
 use Rattle.desk.specs.Steps.{kept_bytes, begun_line, at_first, next_desk, prints, prints_last, Result, still, onward, fed}
 use Rattle.desk.specs.Pieces.{Printed, ended, closed, piece_fed}
 use Rattle.desk.proofs.Feeding.{still_few, fed_few, fed_after}
-use Rattle.desk.proofs.Bytes.{when_closed, at_the_stop, at_a_newline, at_a_byte}
+use Rattle.desk.proofs.Bytes.{one_kept, when_closed, at_the_stop, at_a_newline, at_a_byte}
 
 -- lines of which the first was begun before
 joined : List ℕ → List (List ℕ) → List (List ℕ)
@@ -118,7 +118,9 @@ module _ (d : Desk) (b : ℕ) (rest : List ℕ) (few : length (begun_line d) ≤
       ∙ long_enough d.clerk.area d.line (begun_line d) b (lines_of rest) (omega arith)))
   byte_kept o l e false m =
       due_as (at_a_byte d b o l e)
-      (rw (o, m, ne_eqb b 10 e) (ap (answers d.clerk.area d.line) (joined_byte (begun_line d) b (lines_of rest))))
+      (rw (o, m, ne_eqb b 10 e)
+      (ap (answers d.clerk.area d.line)
+      (joined_byte (begun_line d) b (lines_of rest) ∙ ap (λ g. joined g (lines_of rest)) (sym (one_kept d.begun b)))))
 
   -- at every byte, what is due is what it prints and what is due after it
   byte_due : Due

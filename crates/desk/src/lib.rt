@@ -1,12 +1,12 @@
 // The desk: bytes in, in pieces of any size, and the replies to their lines out.
 #![tactic(auto)]
 
-ghost use Rattle.std.specs.Prelude.{◌≡◌, ◌+◌, ◌≤◌, length};
+ghost use Rattle.std.specs.Prelude.{◌≡◌, ◌≤◌, length};
 ghost use Rattle.replies.specs.Text.{longest, Writes, if_room};
 ghost use Rattle.desk.specs.Desk.{last_answered};
+ghost use Rattle.desk.specs.Steps.{kept_of, none_kept, with_byte};
 ghost use Rattle.desk.specs.Steps.{reply_text, at_first, stopped, behind_newline, longer, next_desk, prints, prints_last, Feeds};
 
-use arrayvec::ArrayVec;
 use clerk::Clerk;
 
 // How many bytes of a line are kept: a line of over 64 is refused, whatever it says, so they decide.
@@ -15,13 +15,49 @@ pub const KEPT: usize = 65;
 // The last line that is answered.
 const LAST_ANSWERED: u32 = 65535;
 
+// The bytes that are kept of a line: the first `count` of an array. (The library's `ArrayVec` holds such bytes too, but is no `Copy`, as a desk has to be.)
+#[derive(Clone, Copy)]
+pub struct Begun {
+    bytes: [u8; KEPT],
+    count: usize,
+}
+
+impl Begun {
+    // No bytes.
+    pub fn new() -> Begun
+        ensures { result ≡ none_kept }
+    {
+        Begun {
+            bytes: [0; KEPT],
+            count: 0,
+        }
+    }
+
+    // One byte more, if it is among those that decide.
+    pub fn push(&mut self, b: u8)
+        ensures { self.new ≡ with_byte self.old b }
+    {
+        if self.count < KEPT {
+            self.bytes[self.count] = b;
+            self.count += 1;
+        }
+    }
+
+    // The bytes. No count is past the end of the array; one that were would stand for all of it, so that nothing has to be asked of a desk.
+    pub fn bytes(&self) -> &[u8]
+        ensures { result.now ≡ kept_of self.now }
+    {
+        &self.bytes[..self.count.min(KEPT)]
+    }
+}
+
 // Where the desk stands: the clerk, the number of the line that is begun or next, the bytes of it that are kept, and whether it is closed: no more is read.
 // That is a flag, since a closed desk still has its line and its clerk.
-#[derive(Clone, Drop)]
+#[derive(Clone, Copy)]
 pub struct Desk {
     pub clerk: Clerk,
     pub line: u32,
-    pub begun: ArrayVec<u8, KEPT>,
+    pub begun: Begun,
     pub closed: bool,
 }
 
@@ -40,7 +76,7 @@ impl Desk {
         Desk {
             clerk: Clerk::new(),
             line: 1,
-            begun: ArrayVec::new(),
+            begun: Begun::new(),
             closed: false,
         }
     }
@@ -56,7 +92,7 @@ impl Desk {
     fn keep(&mut self, b: u8)
         ensures { self.new ≡ longer self.old b }
     {
-        let _ = self.begun.try_push(b);
+        self.begun.push(b);
     }
 
     // The line that is begun is answered, and the next one is begun.
@@ -66,11 +102,11 @@ impl Desk {
         ensures written { Writes out.old 0 (if_room out.old 0 (reply_text self.old)) out.new result }
         ensures short { result ≤ longest }
     {
-        let handled = self.clerk.handle(&self.begun);
+        let handled = self.clerk.handle(self.begun.bytes());
         let written = replies::write_reply(out, self.line, handled.reply);
         self.clerk = handled.clerk;
         self.line += 1;
-        self.begun.clear();
+        self.begun = Begun::new();
         written
     }
 
@@ -121,11 +157,11 @@ impl Desk {
         ensures written { Writes out.old 0 (if_room out.old 0 (prints_last self.now)) out.new result }
         ensures short { result ≤ longest }
     {
-        if self.closed || self.begun.is_empty() {
+        if self.closed || self.begun.bytes().is_empty() {
             return 0;
         }
         if self.line <= LAST_ANSWERED {
-            let handled = self.clerk.handle(&self.begun);
+            let handled = self.clerk.handle(self.begun.bytes());
             return replies::write_reply(out, self.line, handled.reply);
         }
         replies::write_stop(out, self.line)
