@@ -34,6 +34,7 @@ impl Begun {
     }
 
     // One byte more, if it is among those that decide.
+    #[tactic(auto, using(crate::proofs::Bytes::byte_put))]
     pub fn push(&mut self, b: u8)
         ensures { self.new ≡ with_byte self.old b }
     {
