@@ -20,7 +20,7 @@ use Rattle.terms.specs.Terms.{SignedFigures, answered, refused, in_signs, signed
 use Rattle.terms.specs.Guards.{◌else◌, granted, admitted, first, grid_guards}
 use Rattle.terms.proofs.Limits.{limits, squares_limit, all_accepted, grid_passed, on_grid}
 use Rattle.terms.proofs.Refusals.{refusal_not_0}
-use Rattle.terms.proofs.Guards.{◌and◌, passed, next, quiet, refused_first, answered_so}
+use Rattle.terms.proofs.Guards.{◌and◌, passed, next_granted, quiet, refused_first, answered_so}
 use Rattle.terms.proofs.Places.{below_by}
 use Rattle.terms.proofs.Signs.{held, kept, place_fits}
 use Rattle.division.specs.Division.{Square, square, whole, square_of, number_of, blocks_holding}
@@ -109,7 +109,7 @@ module _ (area : Area) (number : ℕ) where
 
     pub number_past : (r : Refusal) → admitted (ltb number (area.w * area.h) else NumberOutside ∷ []) ≡ Err r
         → signed (refused r 3) ≡ number_to_square_at area number
-    number_past r e = refused_at 4 refl r (sym (next (number_guards area number) 3 (lit< tt) on refl (λ p. refl)) ∙ e)
+    number_past r e = refused_at 4 refl r (sym (next_granted (number_guards area number) 3 (lit< tt) on refl (λ p. refl)) ∙ e)
 
     module _ (in_it : admitted (ltb number (area.w * area.h) else NumberOutside ∷ []) ≡ granted) where
       below_all : number < area.w * area.h
@@ -121,12 +121,12 @@ module _ (area : Area) (number : ℕ) where
       -- what the descent found
       module _ (r : Held) (is : r ≡ Descents.held (square_of (all area) number) (blocks_holding (all area) (square_of (all area) number))) where
         four : admitted (first 4 (number_guards area number)) ≡ granted
-        four = sym (next (number_guards area number) 3 (lit< tt) on refl (λ p. refl)) ∙ in_it
+        four = sym (next_granted (number_guards area number) 3 (lit< tt) on refl (λ p. refl)) ∙ in_it
 
         pub number_deep : (s : Refusal) → admitted (leb r.blocks most_blocks else TooDeep ∷ []) ≡ Err s → signed (refused s 3) ≡ number_to_square_at area number
         number_deep s e =
             refused_at 5 refl s
-            (sym (next (number_guards area number) 4 (lit< tt) four refl (λ p. ap (λ (h : Held). leb h.blocks most_blocks) is)) ∙ e)
+            (sym (next_granted (number_guards area number) 4 (lit< tt) four refl (λ p. ap (λ (h : Held). leb h.blocks most_blocks) is)) ∙ e)
 
         pub number_places : Places area r.x r.y
         number_places =
@@ -176,7 +176,7 @@ module _ (area : Area) (x y : ℤ) where
     is_at = on_grid area on
 
     outside_or : (t : Bool) → inside area x y ≡ t → admitted (first 4 (square_guards area x y)) ≡ admitted (t else SquareOutside ∷ [])
-    outside_or t is = sym (next (square_guards area x y) 3 {told = t} (lit< tt) on refl (λ p. sym is))
+    outside_or t is = sym (next_granted (square_guards area x y) 3 {told = t} (lit< tt) on refl (λ p. sym is))
 
     pub square_out : (r : Refusal) → inside area x y ≡ false → r ≡ SquareOutside → refused r 2 ≡ square_to_number_at area x y
     unfolding square_to_number_at numbers
@@ -208,7 +208,7 @@ module _ (area : Area) (x y : ℤ) where
         unfolding square_to_number_at numbers
         square_deep s e =
             refused_first 5 (square_guards area x y) 2 numbers refl s
-            (sym (next (square_guards area x y) 4 (lit< tt) four_passed refl (λ p. ap (λ (h : Numbered). leb h.blocks most_blocks) old_found)) ∙ e)
+            (sym (next_granted (square_guards area x y) 4 (lit< tt) four_passed refl (λ p. ap (λ (h : Numbered). leb h.blocks most_blocks) old_found)) ∙ e)
 
         pub square_found : answered (r.number ∷ r.blocks ∷ []) ≡ square_to_number_at area x y
         unfolding square_to_number_at numbers

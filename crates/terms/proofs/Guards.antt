@@ -13,7 +13,7 @@ use Rattle.terms.specs.declared.Refusal.{Refusal}
 use Rattle.terms.specs.declared.Refusal.TheVariants.{AreaLimit}
 use Rattle.std.specs.Prelude.{Result, Ok, Err, IsErr, IsErrAnd}
 use Rattle.terms.specs.Terms.{refusal_number, Figures, answered, refused, refused_with}
-use Rattle.terms.specs.Guards.{Guard, ◌else◌, Admission, granted, admitted, padded, guarded, first, rest}
+use Rattle.terms.specs.Guards.{Guard, ◌else◌, Admission, granted, admitted, padded, guarded, then_guard, first, rest}
 use Rattle.terms.proofs.Refusals.{refusal_one, refusal_some}
 
 -- Facts, one for each guard of a list, as the list itself is written: they are nested pairs.
@@ -243,10 +243,6 @@ alone k r [] = false
 alone zero r (g ∷ gs) = same g.refusal r && not (stands r gs)
 alone (suc k) r (g ∷ gs) = not (same g.refusal r) && alone k r gs
 
-abbrev then_guard : Admission → Guard → Admission
-then_guard (Ok u) g = cond g.holds granted (Err g.refusal)
-then_guard (Err r) g = Err r
-
 one_more : (gs : List Guard) (n : ℕ) → n < length gs → then_guard (admitted (first n gs)) (nth n gs) ≡ admitted (first (suc n) gs)
 one_more [] n l = absurd (omega arith)
 one_more (g ∷ gs) zero l = refl
@@ -257,13 +253,22 @@ one_more (g ∷ gs) (suc n) l = by g.holds (one_more gs n (omega arith))
     by true later = later
     by false later = refl
 
-pub next : (gs : List Guard) (n : ℕ) {told : Bool} {k : Admission} → n < length gs → admitted (first n gs) ≡ granted
-    → k ≡ admitted (told else (nth n gs).refusal ∷ []) → (Passed (first n gs) → told ≡ (nth n gs).holds) → k ≡ admitted (first (suc n) gs)
-next gs n l granted step right =
+pub next : (gs : List Guard) (n : ℕ) {told : Bool} {j k : Admission} → n < length gs → j ≡ admitted (first n gs)
+    → k ≡ then_guard j (told else (nth n gs).refusal) → (Passed (first n gs) → told ≡ (nth n gs).holds) → k ≡ admitted (first (suc n) gs)
+next gs n {told} {j} {k} l is step right =
     step
-    ∙ ap (λ (t : Bool). admitted (t else (nth n gs).refusal ∷ [])) (right (passed (first n gs) granted))
-    ∙ ap (λ (i : Admission). then_guard i (nth n gs)) (sym granted)
+    ∙ ap (λ (i : Admission). then_guard i (told else (nth n gs).refusal)) is
+    ∙ by (admitted (first n gs)) refl
     ∙ one_more gs n l
+  where
+    by : (i : Admission) → admitted (first n gs) ≡ i → then_guard i (told else (nth n gs).refusal) ≡ then_guard i (nth n gs)
+    by (Ok u) e = ap (λ (t : Bool). cond t granted (Err (nth n gs).refusal)) (right (passed (first n gs) e))
+    by (Err s) e = refl
+
+-- and where all before it passed, which is where the code tries it, it alone admits or refuses
+pub next_granted : (gs : List Guard) (n : ℕ) {told : Bool} {k : Admission} → n < length gs → admitted (first n gs) ≡ granted
+    → k ≡ admitted (told else (nth n gs).refusal ∷ []) → (Passed (first n gs) → told ≡ (nth n gs).holds) → k ≡ admitted (first (suc n) gs)
+next_granted gs n l tried step right = next gs n {j = granted} l (sym tried) step right
 
 -- a guard that holds wherever those before it passed need not be tried
 pub untried : (gs : List Guard) (n : ℕ) {j : Admission} → n < length gs → j ≡ admitted (first n gs) → (Passed (first n gs) → (nth n gs).holds ≡ true)

@@ -42,7 +42,11 @@ abbrev pub guarded : List Guard → (n : ℕ) → (values : List ℕ) → Figure
 guarded [] n values = answered values
 guarded (g ∷ gs) n values = cond g.holds (guarded gs n values) (refused_with g.refusal (padded n g.tells))
 
--- As the code goes through a list: the first n guards, and those after them.
+-- As the code goes through a list: one guard more, after those that were tried; the first n guards; and those after them.
+abbrev pub then_guard : Admission → Guard → Admission
+then_guard (Ok u) g = cond g.holds granted (Err g.refusal)
+then_guard (Err r) g = Err r
+
 abbrev pub first : ℕ → List Guard → List Guard
 first zero gs = []
 first (suc n) [] = []
