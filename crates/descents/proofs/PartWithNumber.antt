@@ -1,7 +1,7 @@
 -- One step of a descent: the part that has a number, with the rest of it. One law over the part, and for each cut which part it is.
 use mathlib.Core.Bool.{Bool, true, false, cond}
 use mathlib.Core.List.{List, [], ◌∷◌, ◌++◌}
-use mathlib.Core.Path.{◌≡◌, refl, sym, ap, ap₂, subst, subst⁻¹, ◌∙◌}
+use mathlib.Core.Path.{◌≡◌, refl, sym, ap, subst, subst⁻¹, ◌∙◌}
 use Prim.Native.Nat.{ℕ, suc, ◌+◌, ◌-◌, ◌*◌, ◌/◌, ◌≤◌, ◌<◌}
 use native.Mathlib.Nat.{mul-one, one-mul}
 use native.Mathlib.Omega.{arith}
@@ -23,7 +23,7 @@ use Rattle.division.proofs.EachSquareOnce.{square_held}
 use Rattle.division.proofs.Descent.{part_inside, square_in, holding_in, straight_holding, some_holding, run_square, side_square}
 use Rattle.division.proofs.PlacedParts.{steps_along, steps_across, run_moved, side_moved}
 use Rattle.division.proofs.WithinLimits.{a_limit, b_limit, product_limit, u_sum, SumsFit, sums_fit}
-use Rattle.descents.specs.Descents.{held, HasNumber, Enters, Descends}
+use Rattle.descents.specs.Descents.{HasNumber, Enters, Descends}
 
 enters : (k : Block) → Inside longest_side longest_side k → (before : List Block) (q : Block) (after : List Block) → parts k ≡ before ++ (q ∷ after)
     → (i j : ℕ) → total area before + j ≡ i → j < area q → Enters k i q j
@@ -113,8 +113,11 @@ module _ {k : Block} {i above : ℕ} (r : Descends k i above) where
     pub part_descends : Descends q j (above + 1)
     part_descends = record { numbers = l.numbers; count = let all = r.count in let sum = counts in omega arith }
 
-    pub part_held : held (square_of q j) ((above + 1) + blocks_holding q (square_of q j)) ≡ held (square_of k i) (above + blocks_holding k (square_of k i))
-    part_held = ap₂ held l.square counts
+    pub part_square : {s : Square} → s ≡ square_of q j → s ≡ square_of k i
+    part_square e = e ∙ l.square
+
+    pub part_count : {n : ℕ} → n ≡ (above + 1) + blocks_holding q (square_of q j) → n ≡ above + blocks_holding k (square_of k i)
+    part_count e = e ∙ counts
 
   pub counted : above + 1 < past_32_bits
   counted =
@@ -128,13 +131,13 @@ module _ {k : Block} {i above : ℕ} (r : Descends k i above) where
       let one = straight_holding k (square_of k i) r.numbers.inside.sized e (square_held longest_side longest_side k r.numbers.inside i r.numbers.below) in
       omega arith
 
-pub ruleset part_answered = (part_descends, part_held)
+pub ruleset part_answered = (part_descends, part_square, part_count)
 
 -- in its row it has the square, which the two bits of its directions give
 module _ (k : Placed) {i above : ℕ} (r : Descends (block k) i above) where
   answered : (s t : Square) → s ≡ t → square_of (block k) i ≡ t → parts (block k) ≡ []
-      → held s (above + 1) ≡ held (square_of (block k) i) (above + blocks_holding (block k) (square_of (block k) i))
-  answered s t p q e = ap₂ held (p ∙ sym q) (alone r e)
+      → (s ≡ square_of (block k) i) × (above + 1 ≡ above + blocks_holding (block k) (square_of (block k) i))
+  answered s t p q e = (p ∙ sym q, alone r e)
 
   module _ (c : choice k.a k.b ≡ StraightRun) where
     run_below : i < k.a
@@ -144,8 +147,8 @@ module _ (k : Placed) {i above : ℕ} (r : Descends (block k) i above) where
     run_steps = steps_along k r.numbers.inside i run_below
 
     pub run_answered : (there : ℕ) → there ≡ stepped_to k.along i k.back
-        → held (cond k.turned (square k.across there) (square there k.across)) (above + 1)
-        ≡ held (square_of (block k) i) (above + blocks_holding (block k) (square_of (block k) i))
+        → (cond k.turned (square k.across there) (square there k.across) ≡ square_of (block k) i)
+        × (above + 1 ≡ above + blocks_holding (block k) (square_of (block k) i))
     unfolding parts_of
     run_answered there e =
         answered _ (moved (block k).run i (block k).start)
@@ -161,8 +164,8 @@ module _ (k : Placed) {i above : ℕ} (r : Descends (block k) i above) where
     side_steps = steps_across k r.numbers.inside i side_below
 
     pub side_answered : (there : ℕ) → there ≡ stepped_to k.across i k.back
-        → held (cond k.turned (square there k.along) (square k.along there)) (above + 1)
-        ≡ held (square_of (block k) i) (above + blocks_holding (block k) (square_of (block k) i))
+        → (cond k.turned (square there k.along) (square k.along there) ≡ square_of (block k) i)
+        × (above + 1 ≡ above + blocks_holding (block k) (square_of (block k) i))
     unfolding parts_of
     side_answered there e =
         answered _ (moved (block k).side i (block k).start)

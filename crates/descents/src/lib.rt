@@ -47,22 +47,22 @@ impl Sought {
         let Sought { block, i } = self;
         let e = division::even_half(block.b);
         let to_b = e * (block.a / 2);
-        let to_c = to_b + block.a * (block.b - e);
         if i < to_b {
-            Sought {
+            return Sought {
                 block: block.part_a(),
                 i,
-            }
-        } else if i < to_c {
-            Sought {
+            };
+        }
+        let to_c = to_b + block.a * (block.b - e);
+        if i < to_c {
+            return Sought {
                 block: block.part_b(),
                 i: i - to_b,
-            }
-        } else {
-            Sought {
-                block: block.part_c(),
-                i: i - to_c,
-            }
+            };
+        }
+        Sought {
+            block: block.part_c(),
+            i: i - to_c,
         }
     }
 }
@@ -78,38 +78,36 @@ fn held_at(along: u32, across: u32, turned: bool, blocks: u32) -> Held
     }
 }
 
-impl Sought {
-    // The square, and how many blocks hold it where `above` hold this block. It calls itself on the part that has the number; the block's area falls. What is
-    // sought is one place in memory: handed on whole to each call, a lookup takes 1.03 to 1.36 of the time.
-    #[tactic(auto, using(crate::proofs::PartWithNumber::part_answered))]
-    fn descend(&mut self, above: u32) -> Held
-        requires { Descends (block self.old.block) self.old.i above }
-        ensures { result
-            ≡ held (square_of (block self.old.block) self.old.i) (above + blocks_holding (block self.old.block) (square_of (block self.old.block) self.old.i)) }
-    {
-        let Sought { block: k, i } = *self;
-        let blocks = above + 1;
-        match division::choose(k.a, k.b) {
-            Choice::StraightRun => held_at(
-                division::stepped(k.along, i, k.back),
-                k.across,
-                k.turned,
-                blocks,
-            ),
-            Choice::StraightSide => held_at(
-                k.along,
-                division::stepped(k.across, i, k.back),
-                k.turned,
-                blocks,
-            ),
-            Choice::LongCut => {
-                *self = self.in_long();
-                self.descend(blocks)
-            }
-            Choice::UCut => {
-                *self = self.in_u();
-                self.descend(blocks)
-            }
+// How many blocks hold the square of a block's number i where `above` hold the block, whose start is that square in the end. It calls itself on the part that
+// has the number, which takes the block's place; the area falls. The call is the last act and returns one number, so that a descent compiles to a loop: a square
+// with its count would be copied after the call.
+#[tactic(auto, using(crate::proofs::PartWithNumber::part_answered))]
+fn descend(place: &mut Placed, i: u32, above: u32) -> u32
+    requires { Descends (block place.old) i above }
+    ensures square { (block place.new).start ≡ square_of (block place.old) i }
+    ensures count { result ≡ above + blocks_holding (block place.old) (square_of (block place.old) i) }
+{
+    let k = *place;
+    let sought = Sought { block: k, i };
+    let blocks = above + 1;
+    match division::choose(k.a, k.b) {
+        Choice::StraightRun => {
+            place.along = division::stepped(k.along, i, k.back);
+            blocks
+        }
+        Choice::StraightSide => {
+            place.across = division::stepped(k.across, i, k.back);
+            blocks
+        }
+        Choice::LongCut => {
+            let part = sought.in_long();
+            *place = part.block;
+            descend(place, part.i, blocks)
+        }
+        Choice::UCut => {
+            let part = sought.in_u();
+            *place = part.block;
+            descend(place, part.i, blocks)
         }
     }
 }
@@ -119,16 +117,20 @@ pub fn square_at(w: u32, h: u32, number: u32) -> Held
     requires { HasNumber (whole w h) number }
     ensures { result ≡ held (square_of (whole w h) number) (blocks_holding (whole w h) (square_of (whole w h) number)) }
 {
-    let mut whole = Sought {
-        block: Placed {
-            along: 0,
-            across: 0,
-            turned: false,
-            back: false,
-            a: w,
-            b: h,
-        },
-        i: number,
+    let mut place = Placed {
+        along: 0,
+        across: 0,
+        turned: false,
+        back: false,
+        a: w,
+        b: h,
     };
-    whole.descend(0)
+    let blocks = descend(&mut place, number, 0);
+    let Placed {
+        along,
+        across,
+        turned,
+        ..
+    } = place;
+    held_at(along, across, turned, blocks)
 }

@@ -46,51 +46,51 @@ impl Sought {
         let e = division::even_half(b);
         let to_b = e * (a / 2);
         if e <= v {
-            Sought {
+            return Sought {
                 spot: spot.in_b(),
                 before: before + to_b,
-            }
-        } else if u < a / 2 {
-            Sought {
+            };
+        }
+        if u < a / 2 {
+            return Sought {
                 spot: spot.in_a(),
                 before,
-            }
-        } else {
-            Sought {
-                spot: spot.in_c(),
-                before: before + to_b + a * (b - e),
-            }
+            };
+        }
+        Sought {
+            spot: spot.in_c(),
+            before: before + to_b + a * (b - e),
         }
     }
 }
 
-impl Sought {
-    // The number, and how many blocks hold the square where `above` hold this block. It calls itself on the part that holds the square; the block's area falls.
-    // What is sought is one place in memory, as in a descent.
-    #[tactic(auto, using(crate::proofs::PartWithSquare::part_answered))]
-    fn search(&mut self, above: u32) -> Numbered
-        requires { Searches self.old.spot self.old.before above }
-        ensures { result ≡ numbered (self.old.before + spot_number self.old.spot) (above + spot_blocks self.old.spot) }
-    {
-        let Sought { spot, before } = *self;
-        let blocks = above + 1;
-        match division::choose(spot.a, spot.b) {
-            Choice::StraightRun => Numbered {
-                number: before + spot.u,
-                blocks,
-            },
-            Choice::StraightSide => Numbered {
-                number: before + spot.v,
-                blocks,
-            },
-            Choice::LongCut => {
-                *self = self.in_long();
-                self.search(blocks)
-            }
-            Choice::UCut => {
-                *self = self.in_u();
-                self.search(blocks)
-            }
+// The number of the square at (u, v) of an a by b block, `before` numbers on, and how many blocks hold it where `above` hold the block. It calls itself on the
+// part that holds the square; the block's area falls. The call is the last act, and there are registers for six numbers, so that a search compiles to a loop
+// with next to nothing in memory.
+#[tactic(auto, using(crate::proofs::PartWithSquare::part_answered))]
+fn search(a: u32, b: u32, u: u32, v: u32, before: u32, above: u32) -> Numbered
+    requires { Searches (spot_at a b u v) before above }
+    ensures { result ≡ numbered (before + spot_number (spot_at a b u v)) (above + spot_blocks (spot_at a b u v)) }
+{
+    let spot = Spot { a, b, u, v };
+    let sought = Sought { spot, before };
+    let blocks = above + 1;
+    match division::choose(a, b) {
+        Choice::StraightRun => Numbered {
+            number: before + spot.u,
+            blocks,
+        },
+        Choice::StraightSide => Numbered {
+            number: before + spot.v,
+            blocks,
+        },
+        Choice::LongCut => {
+            let Sought { spot, before } = sought.in_long();
+            search(spot.a, spot.b, spot.u, spot.v, before, blocks)
+        }
+        Choice::UCut => {
+            let Sought { spot, before } = sought.in_u();
+            search(spot.a, spot.b, spot.u, spot.v, before, blocks)
         }
     }
 }
@@ -100,14 +100,5 @@ pub fn number_at(w: u32, h: u32, x: u32, y: u32) -> Numbered
     requires { Lying (spot_at w h x y) 0 }
     ensures { result ≡ numbered (number_of (whole w h) (square x y)) (blocks_holding (whole w h) (square x y)) }
 {
-    let mut whole = Sought {
-        spot: Spot {
-            a: w,
-            b: h,
-            u: x,
-            v: y,
-        },
-        before: 0,
-    };
-    whole.search(0)
+    search(w, h, x, y, 0, 0)
 }

@@ -18,5 +18,5 @@ returns-then-i-to_b c = a_enters c.requires c.even_half-e.ensures c.part_a.ensur
 pub returns-then-i-to_c : goal.returns-then-i-to_c
 returns-then-i-to_c c = b_enters c.requires c.even_half-e.ensures c.part_b.ensures c.if-i-to_b.false c.if-i-to_c.true
 
-pub returns-else-i-to_c : goal.returns-else-i-to_c
-returns-else-i-to_c c = c_enters c.requires c.even_half-e.ensures c.part_c.ensures c.if-i-to_c.false
+pub returns : goal.returns
+returns c = c_enters c.requires c.even_half-e.ensures c.part_c.ensures c.if-i-to_c.false

@@ -17,14 +17,14 @@ returns-then-e-v c = b_leads c.requires c.even_half-e.ensures c.in_b.ensures c.i
 pub returns-then-u-a : goal.returns-then-u-a
 returns-then-u-a c = a_leads c.requires c.even_half-e.ensures c.in_a.ensures c.if-e-v.false c.if-u-a.true
 
-pub overflow_add-result-else-u-a : goal.overflow_add-result-else-u-a
-overflow_add-result-else-u-a c = record { fits = (u_sums c.requires c.even_half-e.ensures).to_b }
+pub overflow_add-result-2 : goal.overflow_add-result-2
+overflow_add-result-2 c = record { fits = (u_sums c.requires c.even_half-e.ensures).to_b }
 
 pub overflow_sub-result : goal.overflow_sub-result
 overflow_sub-result c = (u_sums c.requires c.even_half-e.ensures).half
 
-pub overflow_add-result-else-u-a-2 : goal.overflow_add-result-else-u-a-2
-overflow_add-result-else-u-a-2 c = record { fits = (u_sums c.requires c.even_half-e.ensures).to_c }
+pub overflow_add-result-3 : goal.overflow_add-result-3
+overflow_add-result-3 c = record { fits = (u_sums c.requires c.even_half-e.ensures).to_c }
 
-pub returns-else-u-a : goal.returns-else-u-a
-returns-else-u-a c = c_leads c.requires c.even_half-e.ensures c.in_c.ensures c.if-e-v.false c.if-u-a.false
+pub returns : goal.returns
+returns c = c_leads c.requires c.even_half-e.ensures c.in_c.ensures c.if-e-v.false c.if-u-a.false

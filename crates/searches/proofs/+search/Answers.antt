@@ -1,11 +1,10 @@
--- `Sought::search` meets its contract, by the laws of `PartWithSquare`: a straight block has the square's number in its row, and alone holds
+-- `searches::search` meets its contract, by the laws of `PartWithSquare`: a straight block has the square's number in its row, and alone holds
 -- the square.
-use Prim.Native.Nat.{◌+◌}
 use native.Mathlib.Omega.{arith}
 use mathlib.Core.Path.{sym, ap₂, ◌∙◌}
 use Rattle.searches.specs.Searches.{numbered}
 use Rattle.searches.proofs.PartWithSquare.{counted, run_answered, side_answered}
-use Rattle.searches.proofs.Sought.+search.Goals as goal
+use Rattle.searches.proofs.+search.Goals as goal
 
 pub overflow_add-blocks : goal.overflow_add-blocks
 overflow_add-blocks t c = let few = counted c.requires in record { fits = omega arith }
