@@ -79,8 +79,8 @@ fn held_at(along: u32, across: u32, turned: bool, blocks: u32) -> Held
 }
 
 // How many blocks hold the square of a block's number i where `above` hold the block, whose start is that square in the end. It calls itself on the part that
-// has the number, which takes the block's place; the area falls. The call is the last act and returns one number, so that a descent compiles to a loop: a square
-// with its count would be copied after the call.
+// has the number, which takes the block's place; the area falls. The call is the last act and returns one number, so that a descent compiles to a loop: a
+// square with its count would be copied after the call.
 #[tactic(auto, using(crate::proofs::PartWithNumber::part_answered))]
 fn descend(place: &mut Placed, i: u32, above: u32) -> u32
     requires { Descends (block place.old) i above }
