@@ -9,7 +9,7 @@ ghost use Rattle.division.specs.Division.{choice};
 ghost use Rattle.division.specs.Forms.{block};
 ghost use Rattle.stretches.specs.Stretch.{stretched, Lies, entries_from};
 
-use division::{Choice, Placed};
+use division::Choice;
 use leaves::{ByNumber, Numbered};
 use terms::Area;
 
@@ -21,25 +21,22 @@ fn numbers_below(bound: usize, at: u32, n: u32) -> u32
 }
 
 // The squares of a straight block that have their numbers in the stretch. The list and its first number are no struct: that would hold a `&mut`, and each call
-// would lend it anew. The block's fields are taken out of it before the loop, whose turns would read them from memory.
+// would lend it anew.
 fn put_straight(out: &mut [u32], first: u32, k: Numbered, area: Area)
     requires { Lies area.w area.h (block k.placed) k.first × (choice k.placed.a k.placed.b ≡ StraightRun) }
     ensures { out.new ≡ stretched first area.w out.old (block k.placed) k.first }
 {
     let w = area.w;
     let at = k.first;
-    let Placed {
-        along,
-        across,
-        turned,
-        back,
-        a,
-        ..
-    } = k.placed;
-    let skip = numbers_below(first as usize, at, a);
-    let end = numbers_below(first as usize + out.len(), at, a);
+    let skip = numbers_below(first as usize, at, k.placed.a);
+    let end = numbers_below(first as usize + out.len(), at, k.placed.a);
     for i in skip..end {
-        let p = leaves::place_of(division::stepped(along, i, back), across, turned, w);
+        let p = leaves::place_of(
+            division::stepped(k.placed.along, i, k.placed.back),
+            k.placed.across,
+            k.placed.turned,
+            w,
+        );
         out[(at + i - first) as usize] = p;
     }
 }

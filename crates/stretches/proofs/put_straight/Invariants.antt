@@ -10,4 +10,4 @@ use Rattle.stretches.proofs.put_straight.Given as goal
 
 abbrev pub invariant-loop-i : goal.invariant-loop-i
 invariant-loop-i l =
-    (l.skip ≤ l.i) × (l.i ≤ l.fn.k.placed.a) × (l.out ≡ put_first l.first l.initial.out l.fn.k.first (map (place l.w) (curve (block l.fn.k.placed))) l.i)
+    (l.skip ≤ l.i) × (l.i ≤ l.k.placed.a) × (l.out ≡ put_first l.first l.initial.out l.k.first (map (place l.w) (curve (block l.k.placed))) l.i)
