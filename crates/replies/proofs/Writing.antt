@@ -4,19 +4,15 @@ use mathlib.Core.Path.{◌≡◌, refl, sym, ap, ap₂, subst, ◌∙◌}
 use Prim.Native.Nat.{ℕ, suc, ◌+◌, ◌-◌, ◌%◌, ◌^◌, ◌≤◌, ◌<◌}
 use native.Mathlib.Nat.{add-zero, zero-add}
 use native.Mathlib.Omega.{arith}
-use lib.IntN.{ℤ, pos, negsuc}
 use borrow.Rule.Slice.PartMut.{put_mid}
 use lib.ListN.{length, length-append, length-drop, take, drop, drop_of_length-le, set}
 use lib.Seq.{sets, sets-eq, length-sets, length-take-le, take_at, drop_at, drop-drop, slice}
-use lib.Signed.{mag}
-use mir.Syntax.{w32}
-use mir.Val.{SFits}
 use Rattle.std.specs.Fmt as Fmt
 use Rattle.std.proofs.lemmas.List.{take_rest}
 use Rattle.std.proofs.lemmas.Fmt.{decimal_by_steps}
-use Rattle.terms.proofs.Signs.{held, kept}
-use Rattle.words.specs.Decimal.{decimal, signed_decimal}
-use Rattle.words.proofs.Decimals.{one_digit, more_digits}
+use Rattle.words.specs.Decimal.{decimal}
+use Rattle.words.proofs.Decimals.{one_digit, more_digits, ten_digits}
+use Rattle.terms.specs.Terms.{past_32_bits}
 use Rattle.replies.specs.Text.{Writes}
 
 sets_append : (t : List ℕ) (i : ℕ) (xs ys : List ℕ) → sets t i (xs ++ ys) ≡ sets (sets t i xs) (i + length xs) ys
@@ -90,13 +86,8 @@ pub same_decimal : (n : ℕ) → n < 2 ^ 64 → Fmt.decimal n ≡ decimal n
 same_decimal n l =
     sym (decimal_by_steps (λ m ds. decimal m ≡ ds) one_digit (λ m ds large e. more_digits m large ∙ ap (λ ds. ds ++ ((48 + m % 10) ∷ [])) e) n l)
 
-pub same_signed : (z : ℤ) → SFits w32 z → Fmt.signed_decimal (held z) ≡ signed_decimal z
-same_signed z fits = ap Fmt.signed_decimal (kept fits) ∙ by z fits.sfits
-  where
-    by : (z : ℤ) → mag z < 2 ^ 31 → Fmt.signed_decimal z ≡ signed_decimal z
-    by (pos n) l = same_decimal n (omega arith)
-    by (negsuc n) l = let next : suc n ≡ n + 1 = omega arith in ap (45 ∷◌) (same_decimal (suc n) (omega arith) ∙ ap decimal next)
-
--- four pieces put behind a word, one after the other
-pub four_behind : (t w a b c d : List ℕ) → ((((t ++ w) ++ a) ++ b) ++ c) ++ d ≡ t ++ (w ++ (a ++ (b ++ (c ++ d))))
-four_behind t w a b c d = simp append_assoc
+-- of a 32-bit number that is at most ten digits
+pub ten_printed : {n m : ℕ} → m ≡ n → n < past_32_bits → (Fmt.decimal m ≡ decimal n) × (length (Fmt.decimal m) ≤ 10)
+ten_printed {n} is fits =
+    let same = ap Fmt.decimal is ∙ same_decimal n (omega arith) in
+    (same, omega (arith, ten_digits n fits, ap length same))

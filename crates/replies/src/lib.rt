@@ -2,66 +2,97 @@
 #![tactic(auto)]
 
 ghost use Rattle.std.specs.Prelude.{[], ◌∷◌, ◌++◌, ◌+◌, ◌≤◌, ◌≡◌, leb, pos, length};
-ghost use Rattle.arrayvec.specs.ArrayVec.{array_vec_len};
+ghost use Rattle.words.specs.Decimal.{decimal, signed_decimal};
 ghost use Rattle.clerk.specs.Clerk.{said};
+ghost use Rattle.replies.specs.Steps.{so_far, Room, Uses};
 ghost use Rattle.replies.specs.Text.{spaced, all_spaced, body, text, stop, longest, longest_spaced, longest_pair, longest_body, Writes, if_room};
 
-use arrayvec::ArrayVec;
 use clerk::Reply;
-use itoa::{Buffer, Integer};
 use terms::Refusal;
 
 // The longest text: a line's number and a reply with five numbers, each of ten digits, two of them with a minus.
 const LONGEST: usize = 73;
 
-// A text that is put together. (`write!` promises its bytes only where it answers Ok, and no clause of the library says where it does.)
-type Text = ArrayVec<u8, LONGEST>;
+// A text that is put together from its end: the bytes of an array from `start` on. So a number's digits, of which the last comes first, are written where they
+// stay. (`write!` promises its bytes only where it answers Ok, and no clause of the library says where it does.)
+#[derive(Drop)]
+struct Text {
+    bytes: [u8; LONGEST],
+    start: usize,
+}
 
-// Puts bytes behind a text.
+impl Text {
+    // No text.
+    fn new() -> Text
+        ensures none { so_far result ≡ [] }
+        ensures room { Room longest result }
+    {
+        Text {
+            bytes: [0; LONGEST],
+            start: LONGEST,
+        }
+    }
+}
+
+// Puts bytes before a text.
 fn put(text: &mut Text, bytes: &[u8])
-    requires { array_vec_len text.old + length bytes.now ≤ longest }
-    ensures written { text.new.items ≡ text.old.items ++ bytes.now }
-    ensures len { array_vec_len text.new ≡ array_vec_len text.old + length bytes.now }
+    requires { Room (length bytes.now) text.old }
+    ensures written { so_far text.new ≡ bytes.now ++ so_far text.old }
+    ensures short { Uses (length bytes.now) text.old text.new }
 {
-    let _ = text.try_extend_from_slice(bytes);
+    let end = text.start;
+    text.start = end - bytes.len();
+    text.bytes[text.start..end].copy_from_slice(bytes);
 }
 
-// Puts a number behind it, in decimal.
-fn put_number<N: Integer>(text: &mut Text, n: N)
-    requires { array_vec_len text.old + N.MAX_STR_LEN ≤ longest }
-    ensures written { text.new.items ≡ text.old.items ++ N.text n }
-    ensures short { array_vec_len text.new ≤ array_vec_len text.old + N.MAX_STR_LEN }
+// Puts a number before it, in decimal.
+fn put_number(text: &mut Text, n: u32)
+    requires { Room 10 text.old }
+    ensures written { so_far text.new ≡ decimal n ++ so_far text.old }
+    ensures short { Uses 10 text.old text.new }
 {
-    put(text, Buffer::new().format(n).as_bytes());
+    text.start = itoa::write_digits(u64::from(n), &mut text.bytes, text.start);
 }
 
-// A space and a number.
+// A signed one: its magnitude, and a minus before it where it is below 0.
+fn put_signed(text: &mut Text, z: i32)
+    requires { Room longest_spaced text.old }
+    ensures written { so_far text.new ≡ signed_decimal z ++ so_far text.old }
+    ensures short { Uses longest_spaced text.old text.new }
+{
+    put_number(text, z.unsigned_abs());
+    if z < 0 {
+        put(text, b"-");
+    }
+}
+
+// A number and a space before it.
 fn put_spaced(text: &mut Text, n: u32)
-    requires { array_vec_len text.old + longest_spaced ≤ longest }
-    ensures written { text.new.items ≡ text.old.items ++ spaced (pos n) }
-    ensures short { array_vec_len text.new ≤ array_vec_len text.old + longest_spaced }
+    requires { Room longest_spaced text.old }
+    ensures written { so_far text.new ≡ spaced (pos n) ++ so_far text.old }
+    ensures short { Uses longest_spaced text.old text.new }
 {
-    put(text, b" ");
     put_number(text, n);
+    put(text, b" ");
 }
 
-// The two signed numbers of a square or an origin, each after a space.
+// The two signed numbers of a square or an origin, each with a space before it.
 fn put_pair(text: &mut Text, x: i32, y: i32)
-    requires { array_vec_len text.old + longest_pair ≤ longest }
-    ensures written { text.new.items ≡ text.old.items ++ all_spaced (x ∷ y ∷ []) }
-    ensures short { array_vec_len text.new ≤ array_vec_len text.old + longest_pair }
+    requires { Room longest_pair text.old }
+    ensures written { so_far text.new ≡ all_spaced (x ∷ y ∷ []) ++ so_far text.old }
+    ensures short { Uses longest_pair text.old text.new }
 {
+    put_signed(text, y);
     put(text, b" ");
-    put_number(text, x);
+    put_signed(text, x);
     put(text, b" ");
-    put_number(text, y);
 }
 
 // A reply's word and numbers, or a refusal's.
 fn put_body(text: &mut Text, reply: Result<Reply, Refusal>)
-    requires { array_vec_len text.old + longest_body ≤ longest }
-    ensures written { text.new.items ≡ text.old.items ++ body (said reply) }
-    ensures short { array_vec_len text.new ≤ array_vec_len text.old + longest_body }
+    requires { Room longest_body text.old }
+    ensures written { so_far text.new ≡ body (said reply) ++ so_far text.old }
+    ensures short { Uses longest_body text.old text.new }
 {
     match reply {
         Ok(
@@ -73,52 +104,31 @@ fn put_body(text: &mut Text, reply: Result<Reply, Refusal>)
                 y,
             },
         ) => {
-            put(text, b" AREA");
-            put_spaced(text, w);
-            put_spaced(text, h);
-            put_spaced(text, squares);
             put_pair(text, x, y);
+            put_spaced(text, squares);
+            put_spaced(text, h);
+            put_spaced(text, w);
+            put(text, b" AREA");
         }
         Ok(Reply::OriginSet { ox, oy }) => {
-            put(text, b" ORIGIN");
             put_pair(text, ox, oy);
+            put(text, b" ORIGIN");
         }
         Ok(Reply::Cell { x, y, blocks }) => {
-            put(text, b" CELL");
-            put_pair(text, x, y);
             put_spaced(text, blocks);
+            put_pair(text, x, y);
+            put(text, b" CELL");
         }
         Ok(Reply::Number { number, blocks }) => {
-            put(text, b" NUMBER");
-            put_spaced(text, number);
             put_spaced(text, blocks);
+            put_spaced(text, number);
+            put(text, b" NUMBER");
         }
         Err(refusal) => {
-            put(text, b" REFUSED");
             put_spaced(text, u32::from(refusal));
+            put(text, b" REFUSED");
         }
     }
-}
-
-// The text of a reply to a line.
-fn reply_text(line: u32, reply: Result<Reply, Refusal>) -> Text
-    ensures { result.items ≡ text line (said reply) }
-{
-    let mut text = Text::new();
-    put_number(&mut text, line);
-    put_body(&mut text, reply);
-    put(&mut text, b"\n");
-    text
-}
-
-// The text for the line after which none is read.
-fn stop_text(line: u32) -> Text
-    ensures { result.items ≡ stop line }
-{
-    let mut text = Text::new();
-    put_number(&mut text, line);
-    put(&mut text, b" STOP\n");
-    text
 }
 
 // Whether a buffer has room for the longest text.
@@ -130,15 +140,16 @@ pub fn has_room(out: &[u8]) -> bool
 
 // Writes a text at the front of a buffer, and says how long it is; or nothing, if the longest text would not fit.
 fn write(out: &mut [u8], text: &Text) -> usize
-    ensures written { Writes out.old 0 (if_room out.old 0 text.now.items) out.new result }
+    requires { Room 0 text.now }
+    ensures written { Writes out.old 0 (if_room out.old 0 (so_far text.now)) out.new result }
     ensures short { result ≤ longest }
 {
     if !has_room(out) {
         return 0;
     }
-    let n = text.len();
-    out[..n].copy_from_slice(text.as_slice());
-    n
+    let bytes = &text.bytes[text.start..];
+    out[..bytes.len()].copy_from_slice(bytes);
+    bytes.len()
 }
 
 // Writes the reply to a line at the front of a buffer, and says how long it is. Nothing is written if the longest text would not fit.
@@ -146,7 +157,11 @@ pub fn write_reply(out: &mut [u8], line: u32, reply: Result<Reply, Refusal>) -> 
     ensures written { Writes out.old 0 (if_room out.old 0 (text line (said reply))) out.new result }
     ensures short { result ≤ longest }
 {
-    write(out, &reply_text(line, reply))
+    let mut text = Text::new();
+    put(&mut text, b"\n");
+    put_body(&mut text, reply);
+    put_number(&mut text, line);
+    write(out, &text)
 }
 
 // The same for the line after which none is read.
@@ -154,5 +169,8 @@ pub fn write_stop(out: &mut [u8], line: u32) -> usize
     ensures written { Writes out.old 0 (if_room out.old 0 (stop line)) out.new result }
     ensures short { result ≤ longest }
 {
-    write(out, &stop_text(line))
+    let mut text = Text::new();
+    put(&mut text, b" STOP\n");
+    put_number(&mut text, line);
+    write(out, &text)
 }
