@@ -42,8 +42,10 @@ fn put_straight(out: &mut [u32], first: u32, k: Numbered, area: Area)
 }
 
 // A block, unless it lies wholly before the stretch or behind it. One that lies wholly in it is filled, with what repeats copied. It and the two cuts call each
-// other; the block's area falls.
+// other; the block's area falls. It is compiled into its callers, so that an area that is one straight block has a loop of its own, made for the directions
+// that are known there.
 #[cycle(stretch)]
+#[inline(always)]
 fn stretch_block(out: &mut [u32], first: u32, k: Numbered, area: Area)
     requires { Lies area.w area.h (block k.placed) k.first }
     ensures { out.new ≡ stretched first area.w out.old (block k.placed) k.first }
