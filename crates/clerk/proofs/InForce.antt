@@ -30,7 +30,7 @@ module _ (area : Area) where
       by true on = on
       by false off = cc (none_in_force off, is)
 
-  -- "counts as none": an `Some` clerk made by hand with an area that is not accepted, or an origin, is in every line as one with no area, in what it
+  -- "counts as none": a clerk made by hand with an area that is not accepted, or with such an origin, is in every line as one with no area, in what it
   -- replies and in what it leaves.
   pub none_by_hand : grid_accepted area ≡ false → (line : List ℕ)
       → (spec.reply (Some area) line ≡ spec.reply None line) × (spec.after (Some area) line ≡ spec.after None line)
