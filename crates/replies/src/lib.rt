@@ -1,10 +1,10 @@
 // Replies as text: written to a lent buffer, with the line's number.
 #![tactic(auto)]
 
-ghost use Rattle.std.specs.Prelude.{[], ◌∷◌, ◌++◌, ◌+◌, ◌≤◌, ◌≡◌, leb, pos, length};
+ghost use Rattle.std.specs.Prelude.{[], ◌∷◌, ◌++◌, ◌≤◌, ◌≡◌, leb, pos, length};
 ghost use Rattle.words.specs.Decimal.{decimal, signed_decimal};
 ghost use Rattle.clerk.specs.Clerk.{said};
-ghost use Rattle.replies.specs.Steps.{so_far, Room, Uses};
+ghost use Rattle.replies.specs.Steps.{bytes_put, Room, Uses};
 ghost use Rattle.replies.specs.Text.{spaced, all_spaced, body, text, stop, longest, longest_spaced, longest_pair, longest_body, Writes, if_room};
 
 use clerk::Reply;
@@ -24,7 +24,7 @@ struct Text {
 impl Text {
     // No text.
     fn new() -> Text
-        ensures none { so_far result ≡ [] }
+        ensures none { bytes_put result ≡ [] }
         ensures room { Room longest result }
     {
         Text {
@@ -37,7 +37,7 @@ impl Text {
 // Puts bytes before a text.
 fn put(text: &mut Text, bytes: &[u8])
     requires { Room (length bytes.now) text.old }
-    ensures written { so_far text.new ≡ bytes.now ++ so_far text.old }
+    ensures written { bytes_put text.new ≡ bytes.now ++ bytes_put text.old }
     ensures short { Uses (length bytes.now) text.old text.new }
 {
     let end = text.start;
@@ -45,20 +45,20 @@ fn put(text: &mut Text, bytes: &[u8])
     text.bytes[text.start..end].copy_from_slice(bytes);
 }
 
-// Puts a number before it, in decimal.
+// Puts a number before a text, in decimal.
 fn put_number(text: &mut Text, n: u32)
     requires { Room 10 text.old }
-    ensures written { so_far text.new ≡ decimal n ++ so_far text.old }
+    ensures written { bytes_put text.new ≡ decimal n ++ bytes_put text.old }
     ensures short { Uses 10 text.old text.new }
 {
     text.start = itoa::write_digits(u64::from(n), &mut text.bytes, text.start);
 }
 
-// A signed one: its magnitude, and a minus before it where it is below 0.
+// Puts a signed number before a text: its magnitude, and a minus before that where it is below 0.
 fn put_signed(text: &mut Text, z: i32)
-    requires { Room longest_spaced text.old }
-    ensures written { so_far text.new ≡ signed_decimal z ++ so_far text.old }
-    ensures short { Uses longest_spaced text.old text.new }
+    requires { Room 11 text.old }
+    ensures written { bytes_put text.new ≡ signed_decimal z ++ bytes_put text.old }
+    ensures short { Uses 11 text.old text.new }
 {
     put_number(text, z.unsigned_abs());
     if z < 0 {
@@ -66,20 +66,20 @@ fn put_signed(text: &mut Text, z: i32)
     }
 }
 
-// A number and a space before it.
+// Puts a number before a text, and a space before the number.
 fn put_spaced(text: &mut Text, n: u32)
     requires { Room longest_spaced text.old }
-    ensures written { so_far text.new ≡ spaced (pos n) ++ so_far text.old }
+    ensures written { bytes_put text.new ≡ spaced (pos n) ++ bytes_put text.old }
     ensures short { Uses longest_spaced text.old text.new }
 {
     put_number(text, n);
     put(text, b" ");
 }
 
-// The two signed numbers of a square or an origin, each with a space before it.
+// Puts the two signed numbers of a square or an origin before a text, each with a space before it.
 fn put_pair(text: &mut Text, x: i32, y: i32)
     requires { Room longest_pair text.old }
-    ensures written { so_far text.new ≡ all_spaced (x ∷ y ∷ []) ++ so_far text.old }
+    ensures written { bytes_put text.new ≡ all_spaced (x ∷ y ∷ []) ++ bytes_put text.old }
     ensures short { Uses longest_pair text.old text.new }
 {
     put_signed(text, y);
@@ -88,10 +88,10 @@ fn put_pair(text: &mut Text, x: i32, y: i32)
     put(text, b" ");
 }
 
-// A reply's word and numbers, or a refusal's.
+// Puts a reply's word and numbers before a text, or a refusal's.
 fn put_body(text: &mut Text, reply: Result<Reply, Refusal>)
     requires { Room longest_body text.old }
-    ensures written { so_far text.new ≡ body (said reply) ++ so_far text.old }
+    ensures written { bytes_put text.new ≡ body (said reply) ++ bytes_put text.old }
     ensures short { Uses longest_body text.old text.new }
 {
     match reply {
@@ -141,7 +141,7 @@ pub fn has_room(out: &[u8]) -> bool
 // Writes a text at the front of a buffer, and says how long it is; or nothing, if the longest text would not fit.
 fn write(out: &mut [u8], text: &Text) -> usize
     requires { Room 0 text.now }
-    ensures written { Writes out.old 0 (if_room out.old 0 (so_far text.now)) out.new result }
+    ensures written { Writes out.old 0 (if_room out.old 0 (bytes_put text.now)) out.new result }
     ensures short { result ≤ longest }
 {
     if !has_room(out) {

@@ -1,6 +1,6 @@
 -- `replies::put_number` meets its contract: the digits, of which there are at most ten, end where the text began.
 use Rattle.std.proofs.Common.{arith, ap, rules, ◌≡◌, ◌++◌, ◌∙◌, List, ℕ, length}
-use Rattle.replies.specs.Steps.{so_far}
+use Rattle.replies.specs.Steps.{bytes_put}
 use Rattle.replies.proofs.Writing.{ten_printed}
 use Rattle.replies.proofs.put_number.Goals as goal
 
@@ -13,7 +13,7 @@ write_digits-text-requires c =
 pub returns-clause-written : goal.returns-clause-written
 returns-clause-written c =
     let digits = ten_printed c.from.ensures c.ranges.n.fits in
-    c.write_digits-text.ensures.written ∙ ap (λ (ds : List ℕ). ds ++ so_far c.args.text.now) digits.0
+    c.write_digits-text.ensures.written ∙ ap (λ (ds : List ℕ). ds ++ bytes_put c.args.text.now) digits.0
 
 pub returns-clause-short : goal.returns-clause-short
 returns-clause-short c =

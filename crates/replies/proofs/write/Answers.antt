@@ -3,7 +3,7 @@ use Rattle.std.proofs.Common.{length, length-drop, take, drop, sym, refl, ap, �
 use borrow.Author.Tests.{leb-true}
 use Rattle.std.proofs.lemmas.List.{take_rest}
 use Rattle.replies.specs.Text.{longest}
-use Rattle.replies.specs.Steps.{so_far}
+use Rattle.replies.specs.Steps.{bytes_put}
 use Rattle.replies.proofs.Writing.{writes_front}
 use Rattle.replies.proofs.write.Goals as goal
 
@@ -13,7 +13,7 @@ returns-clause-written c =
     let room = sym c.has_room.ensures ∙ c.if-not-has_room.false in
     let enough = leb-true longest (length c.args.out.now) room in
     let size : length made.bytes ≡ 73 = search rules in
-    let all : take (73 - made.start) (drop made.start made.bytes) ≡ so_far made =
+    let all : take (73 - made.start) (drop made.start made.bytes) ≡ bytes_put made =
     ap (λ n. take (n - made.start) (drop made.start made.bytes)) (sym size) ∙ take_rest made.bytes made.start in
     let same = c.copy_from_slice.ensures.after ∙ all in
-    rw (room, same, all) (writes_front c.args.out.now (so_far made) (length (so_far made)) refl (omega (arith, length-drop made.start made.bytes)))
+    rw (room, same, all) (writes_front c.args.out.now (bytes_put made) (length (bytes_put made)) refl (omega (arith, length-drop made.start made.bytes)))
